@@ -1,0 +1,4 @@
+pub mod Sums
+pub mod Bitwise
+pub mod Lists
+pub mod Arrays
