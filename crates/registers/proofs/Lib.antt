@@ -1,0 +1,5 @@
+mod Rules
+mod Feeds
+mod Circles
+mod Laws
+mod Exactly

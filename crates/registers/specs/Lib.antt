@@ -1,0 +1,4 @@
+pub mod Rules
+pub mod Registers
+pub mod Allowed
+pub mod Views
