@@ -1,0 +1,3 @@
+mod Mixes
+mod Delays
+mod Exactly

@@ -1,0 +1,3 @@
+pub mod Shifter
+pub mod Delayed
+pub mod Views
