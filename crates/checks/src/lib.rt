@@ -1,0 +1,5 @@
+// Tests over many cases, apart from the libraries that they try, so that these are not proved twice.
+#[cfg(test)]
+mod makers;
+#[cfg(test)]
+mod shifts;
