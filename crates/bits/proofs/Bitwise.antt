@@ -1,6 +1,6 @@
 -- The bits of what word operations give.
 use mathlib.Core.Path.{_≡_, refl, sym, ap, ap₂, _∙_, subst}
-use mathlib.Core.Bool.{Bool, true, false, _&&_, _||_, and-true, and-false}
+use mathlib.Core.Bool.{Bool, true, false, _&&_, _||_, not, and-true, and-false}
 use mathlib.Core.Logic.{_⊎_, inl, inr}
 use Prim.Native.Nat.{ℕ, zero, suc, _+_, _-_, _*_, _/_, _%_, _^_, _<_, _≤_}
 use native.Mathlib.Omega.{arith}
@@ -87,6 +87,34 @@ bit-low w k i h =
     let e : k ≡ (k - i - 1 + 1) + i = omega arith in
     ap (λ (n : ℕ). bitOf (w % 2 ^ n) i) e ∙ ap (λ (x : ℕ). eqb (x % 2) 1) (field w (k - i - 1 + 1) i)
     ∙ ap (λ (x : ℕ). eqb x 1) (mod-mod-pow (w / 2 ^ i) (k - i - 1) 1)
+
+-- `!w` at n bits
+pub bit-not : (n w i : ℕ) → w < 2 ^ n → i < n → bitOf (2 ^ n - 1 - w) i ≡ not (bitOf w i)
+bit-not zero w i h k = absurd (omega arith)
+bit-not (suc n) w zero h k =
+    let two = pow-suc 2 n in
+    bit-first (2 ^ suc n - 1 - w) ∙ digit-not _ (w % 2) (omega arith) ∙ ap not (sym (bit-first w))
+  where
+    digit-not : (x d : ℕ) → x + d ≡ 1 → eqb x 1 ≡ not (eqb d 1)
+    digit-not zero (suc zero) e = refl
+    digit-not (suc zero) zero e = refl
+    digit-not zero zero e = absurd (omega arith)
+    digit-not zero (suc (suc d)) e = absurd (omega arith)
+    digit-not (suc zero) (suc d) e = absurd (omega arith)
+    digit-not (suc (suc x)) d e = absurd (omega arith)
+bit-not (suc n) w (suc i) h k =
+    let two = pow-suc 2 n in
+    let half : (2 ^ suc n - 1 - w) / 2 ≡ 2 ^ n - 1 - w / 2 = omega arith in
+    bit-suc (2 ^ suc n - 1 - w) i ∙ ap (λ (x : ℕ). bitOf x i) half ∙ bit-not n (w / 2) i (omega arith) (omega arith) ∙ ap not (sym (bit-suc w i))
+
+-- `v & !u` at 64 bits
+pub bits-without : (v u : ℕ) → v < 2 ^ 64 → u < 2 ^ 64 → bitOf (bitAnd v (2 ^ 64 - 1 - u)) ≡ (λ i. bitOf v i && not (bitOf u i))
+bits-without v u h k =
+    ext (λ i. bit-and v (2 ^ 64 - 1 - u) i ∙ elim (cases-lt i 64) [
+      | inl l ↦ ap (λ (b : Bool). bitOf v i && b) (bit-not 64 u i k l)
+      | inr l ↦ ap (λ (b : Bool). b && bitOf (2 ^ 64 - 1 - u) i) (bit-above v 64 i h l)
+          ∙ sym (ap (λ (b : Bool). b && not (bitOf u i)) (bit-above v 64 i h l))
+    ])
 
 pub bit-double-first : (w : ℕ) → bitOf (w * 2) zero ≡ false
 bit-double-first w = bit-first (w * 2) ∙ ap (λ (x : ℕ). eqb x 1) (mul-mod-left w 2)
@@ -189,7 +217,7 @@ lowest-set (suc k) w ne h = go (w % 2) refl (lowest-set k (w / 2))
 pub set-below : (w n p : ℕ) → w < 2 ^ n → bitOf w p ≡ true → p < n
 set-below w n p h set = elim (cases-lt p n) [ inl l ↦ l | inr l ↦ absurd (both-ways _ (bit-above w n p h l) set) ]
 
-word-zeros : (n : ℕ) → wordOf n zeros ≡ zero
+pub word-zeros : (n : ℕ) → wordOf n zeros ≡ zero
 word-zeros zero = refl
 word-zeros (suc n) = let e = word-zeros n in omega arith
 

@@ -106,7 +106,7 @@ same-upto n s t p q = ext (λ i. go i (ltb i n) refl)
     go i true e = p i (ltb-true i n e) ∙ sym (upto-at n t i (ltb-true i n e))
     go i false e = q i (ltb-false i n e) ∙ sym (upto-past n t i (ltb-false i n e))
 
-upto-same : (n : ℕ) (s t : Row) → ((i : ℕ) → i < n → s i ≡ t i) → upto n s ≡ upto n t
+pub upto-same : (n : ℕ) (s t : Row) → ((i : ℕ) → i < n → s i ≡ t i) → upto n s ≡ upto n t
 upto-same n s t p = same-upto n (upto n s) t (λ i h. upto-at n s i h ∙ p i h) (λ i h. upto-past n s i h)
 
 pub upto-upto : (n : ℕ) (s : Row) → upto n (upto n s) ≡ upto n s
