@@ -1,0 +1,6 @@
+pub mod Frames
+pub mod Loads
+pub mod Memory
+pub mod Runs
+pub mod Responses
+pub mod Views
