@@ -1,0 +1,3 @@
+mod Loads
+mod Runs
+mod Replays
