@@ -2,4 +2,6 @@
 #[cfg(test)]
 mod makers;
 #[cfg(test)]
+mod runs;
+#[cfg(test)]
 mod shifts;

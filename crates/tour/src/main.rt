@@ -1,137 +1,25 @@
-// A walk through the library: a four-cell ring generator alone, under a phase shifter and under a delay.
-ghost use mathlib.Core.Path.{_≡_};
-ghost use Rattle.std.specs.Of.String.{string-bytes};
-ghost use Rattle.std.specs.Vec.{made};
-ghost use Rattle.bits.specs.Words.{bitOf};
-ghost use Rattle.tour.specs.Digits.{digitsOf};
-use bits::has;
-use layers::Delay;
-use layers::DelayMachine;
-use layers::PhaseShifter;
-use layers::PhaseShifterMachine;
-use machine::Machine;
-use machine::cycle;
-use refusals::Refusal;
-use refusals::RefusalDisplay;
-use refusals::RefusalError;
-use registers::Link;
-use registers::RingGenerator;
-use registers::RingMachine;
-use std::alloc::AllocError;
-use std::alloc::Global;
+// A walk through the library: a four-cell ring generator alone, under a phase shifter and under a delay, and a test run on it.
+mod digits;
+mod machines;
+mod run;
+
+use machines::alone;
+use machines::refused;
+use machines::under_a_delay;
+use machines::under_a_shifter;
+use run::load_pattern;
+use run::show_response;
+use run::unload_response;
 use std::error::AnyError;
-
-// What channel 0 takes in each cycle of the tour.
-const INJECTION: [u64; 6] = [1, 0, 0, 0, 1, 1];
-
-// The first `count` bits of a word as noughts and ones, bit 0 first.
-fn digits(heap: Global, word: u64, count: usize) -> Result<String, AllocError>
-    ensures { λ r. ⌜ made r (λ text. string-bytes text ≡ digitsOf count (bitOf word)) ⌝ }
-{
-    let mut text = String::new(heap);
-    for place in 0..count {
-        text.push(if has(word, place) { '1' } else { '0' })?;
-    }
-    Ok(text)
-}
-
-// One cycle of a machine, and its outlets after it.
-fn shown_cycle<M: Machine>(heap: Global, machine: &mut M, word: u64) -> Result<String, AllocError> {
-    let outlets = cycle(machine, word);
-    digits(heap, outlets, machine.outlets())
-}
-
-// The ring of four cells with a link from cell 0 to cell 3 and one inlet, channel 0 into cell 0.
-fn ring_of_four() -> Result<RingGenerator, Refusal> {
-    RingGenerator::new(4, &[Link { from: 0, to: 3 }], &[0])
-}
-
-// A ring alone: its outlets are its cells.
-fn alone(rt: &LibcRuntime) -> Result<(), AnyError> {
-    println!(
-        rt,
-        "A ring generator of four cells, at reset: every cell is 0."
-    )?;
-    println!(
-        rt,
-        "A shift moves the cells on by one place round the circle; the link adds cell 0 to cell 3, and channel 0 feeds cell 0."
-    )?;
-    println!(rt, "Cells and outlets are written from number 0 on.")?;
-    let mut ring = ring_of_four()?;
-    for (t, word) in INJECTION.iter().enumerate() {
-        let cells = shown_cycle(rt.alloc(), &mut ring, *word)?;
-        println!(
-            rt,
-            "  cycle {}: injected {word}, cells and outlets {cells}",
-            t + 1
-        )?;
-    }
-    Ok(())
-}
-
-// The ring under a phase shifter.
-fn under_a_shifter(rt: &LibcRuntime) -> Result<(), AnyError> {
-    println!(rt, "\nThe same ring under a phase shifter of two outlets.")?;
-    println!(
-        rt,
-        "Outlet 0 is outlet 0 below, and outlet 1 is the sum of outlets 1 and 2 below. The cells are those of the ring."
-    )?;
-    let mut pile = match PhaseShifter::new(ring_of_four()?, &[0b001, 0b110]) {
-        Ok(pile) => pile,
-        Err(back) => return Err(back.1.into()),
-    };
-    for (t, word) in INJECTION.iter().enumerate() {
-        let outlets = shown_cycle(rt.alloc(), &mut pile, *word)?;
-        let cells = digits(rt.alloc(), pile.below().read(), 4)?;
-        println!(
-            rt,
-            "  cycle {}: injected {word}, cells {cells}, outlets {outlets}",
-            t + 1
-        )?;
-    }
-    Ok(())
-}
-
-// The ring under a delay.
-fn under_a_delay(rt: &LibcRuntime) -> Result<(), AnyError> {
-    println!(rt, "\nThe same ring under a delay.")?;
-    println!(
-        rt,
-        "The delay has a cell for each outlet below, which takes that outlet as it is before the shift. Its outlets are these cells."
-    )?;
-    let mut pile = Delay::new(ring_of_four()?);
-    for (t, word) in INJECTION.iter().enumerate() {
-        let outlets = shown_cycle(rt.alloc(), &mut pile, *word)?;
-        let cells = digits(rt.alloc(), pile.below().read(), 4)?;
-        println!(
-            rt,
-            "  cycle {}: injected {word}, cells of the ring {cells}, outlets {outlets}",
-            t + 1
-        )?;
-    }
-    Ok(())
-}
-
-// A ring that breaks the rule cannot be made.
-fn refused(rt: &LibcRuntime) -> Result<(), AnyError> {
-    println!(
-        rt,
-        "\nA ring with a link from cell 3 to cell 0, which is the next cell of the circle."
-    )?;
-    match RingGenerator::new(4, &[Link { from: 3, to: 0 }], &[0]) {
-        Ok(_) => Err("a ring that breaks the rule was made".into()),
-        Err(refusal) => {
-            println!(rt, "  refused with number {}: {refusal}", refusal.number())?;
-            Ok(())
-        }
-    }
-}
 
 fn walk(rt: &LibcRuntime) -> Result<(), AnyError> {
     alone(rt)?;
     under_a_shifter(rt)?;
     under_a_delay(rt)?;
-    refused(rt)
+    refused(rt)?;
+    let run = load_pattern(rt)?;
+    show_response(rt)?;
+    unload_response(rt, run)
 }
 
 fn main(rt: LibcRuntime) -> Result<(), AnyError> {
