@@ -1,4 +1,6 @@
 // Word operations by what they do to rows of bits.
+#![tactic(auto)]
+
 ghost use Rattle.std.specs.Prelude.{◌≡◌};
 ghost use Rattle.bits.specs.Rows.{sum_of};
 ghost use Rattle.bits.specs.Words.{bit_of, word_of};

@@ -1,4 +1,6 @@
 // Tests over many cases, apart from the libraries that they try, so that these are not proved twice.
+#![tactic(auto)]
+
 #[cfg(test)]
 mod makers;
 #[cfg(test)]

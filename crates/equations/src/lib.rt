@@ -1,6 +1,8 @@
 // Equations over bits, by value: coefficients, right side, sum and lead.
 //
 // The proofs hold the theory that a session leans on: how many rows solve equations whose leads differ, and which of them is the first.
+#![tactic(auto)]
+
 ghost use Rattle.std.specs.Prelude.{◌≡◌};
 ghost use Rattle.bits.specs.Rows.{plus, xor};
 ghost use Rattle.equations.specs.Equations.{coefficients_of, lead_of};

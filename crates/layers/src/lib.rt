@@ -1,4 +1,6 @@
 // Layers that stand over any linear machine, and are machines themselves: a phase shifter and a delay.
+#![tactic(auto)]
+
 mod delay;
 mod sets;
 mod shifter;

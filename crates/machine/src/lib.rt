@@ -1,4 +1,6 @@
 // Linear machines: what a ring generator, an LFSR, a phase shifter and every pile of them have in common.
+#![tactic(auto)]
+
 ghost use Rattle.std.specs.Prelude.{◌≡◌};
 ghost use Rattle.bits.specs.Rows.{Row, zeros, upto};
 ghost use Rattle.machine.specs.Linear.{Linear, Superposes, Counted, shifted, shown};

@@ -1,4 +1,6 @@
 // Patterns: the digits of an injection, replayed into simulated scan chains.
+#![tactic(auto)]
+
 ghost use Rattle.std.specs.Prelude.{◌≡◌, ◌≤◌, true, is_ok, Ok};
 ghost use Rattle.bits.specs.Digits.{digit_row};
 ghost use Rattle.scan.specs.Loads.{PositionEndsWithItsOutlet};

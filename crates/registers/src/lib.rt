@@ -2,6 +2,8 @@
 //
 // Taps, links and inlets are gathered line by line, each by the rule of its line. A register is wired from parts of one size, and is a
 // linear machine from then on.
+#![tactic(auto)]
+
 mod circle;
 mod galois;
 mod inlets;

@@ -1,4 +1,6 @@
 // Impulse responses: what each injected bit of a machine does to one position of a chain, as an equation.
+#![tactic(auto)]
+
 ghost use Rattle.std.specs.Prelude.{◌≡◌, ◌-◌, ◌<◌, ◌≤◌, is_ok, if◌then◌else◌, Ok};
 ghost use Rattle.bits.specs.Rows.{zeros};
 ghost use Rattle.refusals.specs.Chains.{answer_of};

@@ -2,6 +2,8 @@
 //
 // Data flows so: words go through the machine, whose outlets enter the chains (`Loading`); once all cycles are done the run is `Loaded`; a
 // response of values and unknown marks makes it `Captured`, and is unloaded position by position.
+#![tactic(auto)]
+
 mod care;
 mod chains;
 mod frame;

@@ -1,4 +1,6 @@
 // A session: bits are proposed in trials, and what stands is read as a free count and as a pattern.
+#![tactic(auto)]
+
 mod counter;
 mod opening;
 mod readings;

@@ -1,4 +1,6 @@
 // A walk through the library: a four-cell ring generator alone, under a phase shifter and under a delay, and a test run on it.
+#![tactic(auto)]
+
 mod digits;
 mod machines;
 mod run;
