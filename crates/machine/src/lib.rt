@@ -46,9 +46,9 @@ pub trait Machine {
 // The clause `drawn` says how much of the subject the trait covers: whatever is drawn with n cells, K channels and C outlets, K and C from 1
 // to 64, and superposes on lists of so many bits, has a meaning that the trait takes.
 pub fn cycle<M: Machine>(machine: &mut M, word: u64) -> u64
-    ensures same { meaning machine.new ≡ meaning machine.old }
-    ensures after { cells machine.new ≡ shifted (meaning machine.old) (cells machine.old) word }
-    ensures outlets { result ≡ shown (meaning machine.old) (cells machine.new) }
+    ensures same { M.meaning machine.new ≡ M.meaning machine.old }
+    ensures after { M.cells machine.new ≡ shifted (M.meaning machine.old) (M.cells machine.old) word }
+    ensures outlets { result ≡ shown (M.meaning machine.old) (M.cells machine.new) }
     ensures drawn { ListsAreLinear }
 {
     machine.shift(word);

@@ -1,6 +1,6 @@
 -- The words that a shift goes by hold what its definition says.
 use Rattle.std.proofs.Common.{◌≡◌, ℕ, zero, suc, ◌+◌, ◌-◌, ◌*◌, ◌/◌, ◌%◌, ◌^◌, ◌<◌, ◌≤◌, Bool, true, ◌&&◌, ◌||◌, eqb, List, [], ◌∷◌, ◌++◌, sym, ap, ◌∙◌, subst, ap₂, lt_of_lt_of_le, arith, pow_mono, shl_lt, shr_lt}
-use mathlib.Core.Bool.{and-true, or_false}
+use mathlib.Core.Bool.{and-true, or-false}
 use lib.Bits.{bit_and, bit_or, bit_xor, or_lt, xor_lt}
 use Rattle.std.proofs.lemmas.Nat.{shl_whole}
 use Rattle.bits.specs.Rows.{Row, xor}
@@ -37,7 +37,7 @@ module _ (cells n : ℕ) (some : 2 ≤ n) (few : n ≤ 64) (held : cells < 2 ^ n
       bit_of_or moved (cells / 2 ^ (n - 1)) (suc i)
       ∙ ap₂ ◌||◌ (ap (λ (x : ℕ). bit_of x (suc i)) moved_is ∙ bit_double _ i ∙ word_at (n - 1) (bit_of cells) i (omega arith))
       (bit_above (cells / 2 ^ (n - 1)) 1 (suc i) last_small (omega arith))
-      ∙ or_false (bit_of cells i)
+      ∙ or-false (bit_of cells i)
 
   pub circled_is : (lo : ℕ) → lo ≡ word_of (n - 1) (bit_of cells)
       → bit_or ((lo * 2) % 2 ^ 64) (cells / 2 ^ (n - 1)) ≡ word_of n (λ i. bit_of cells (before n i))

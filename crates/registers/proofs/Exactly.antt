@@ -1,6 +1,6 @@
 -- A register is made exactly of the lines that are allowed, and then it is the one that they describe.
 use Rattle.std.proofs.Common.{◌≡◌, ℕ, zero, suc, ◌+◌, ◌<◌, ◌≤◌, Bool, true, false, not, ◌||◌, eqb, ltb, leb, List, [], ◌∷◌, ◌++◌, length, get_or, is_ok, Ok, Result, sym, refl, ap, ◌∙◌, ap₂, append_assoc, arith}
-use mathlib.Core.Bool.{or_false, or_assoc}
+use mathlib.Core.Bool.{or-false, or_assoc}
 use Rattle.std.proofs.lemmas.List.{append-nil, length-append}
 use Rattle.std.proofs.lemmas.Bool.{leb-false, ltb-false, eqb-true, eqb-false, eq-eqb, ne_eqb, le-ltb, and_parts, or_parts, or_from, both_ways, false≢true, cond-false}
 use Rattle.bits.specs.Rows.{Row, zeros}
@@ -33,7 +33,7 @@ record MoreTaps (t : TapsRead) (taps : List ℕ) : Type 0 where
   pub fresh : (k : ℕ) → k < length taps → t.tapped (get_or taps k 0) ≡ false
 
 taps_read_lem : (t : TapsRead) (taps : List ℕ) → MoreTaps t taps → reading tap_line t taps ≡ Ok (record { size = t.size; tapped = λ i. t.tapped i || among taps i })
-taps_read_lem t [] m = ap (λ (s : Row). Ok (record { size = t.size; tapped = s })) (ext (λ i. sym (or_false (t.tapped i))))
+taps_read_lem t [] m = ap (λ (s : Row). Ok (record { size = t.size; tapped = s })) (ext (λ i. sym (or-false (t.tapped i))))
 taps_read_lem t (x ∷ xs) m =
     let u = with_tap t x in
     let here = m.allowed.inside zero (omega arith) in

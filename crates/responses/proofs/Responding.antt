@@ -1,6 +1,6 @@
 -- The responses of one channel, set one by one as its impulse goes through the machine.
 use Rattle.std.proofs.Common.{◌≡◌, ℕ, ◌+◌, ◌-◌, ◌*◌, ◌/◌, ◌%◌, ◌^◌, ◌<◌, ◌≤◌, Bool, true, false, ◌&&◌, ◌||◌, eqb, leb, List, length, sym, refl, ap, ◌∙◌, ap₂, inl, inr, add-one, arith}
-use mathlib.Core.Bool.{and-true, or_assoc, or_false}
+use mathlib.Core.Bool.{and-true, or_assoc, or-false}
 use Rattle.std.proofs.lemmas.Nat.{mul-add-lt}
 use Rattle.std.proofs.lemmas.Bool.{cases_eq, cases_Bool, ne_eqb, leb-true, le-leb, and_right, and_left}
 use Rattle.std.proofs.lemmas.Bool.Decides.{nat_tests}
@@ -72,7 +72,7 @@ module _ (m : Linear) (law : Superposes m) (k t c : ℕ) where
       joined : (a b z r : Bool) → (((a && b) && r) || ((z && a) && r)) ≡ ((a && (b || z)) && r)
       joined true true true true = refl
       joined true true true false = refl
-      joined true true false r = or_false r
+      joined true true false r = or-false r
       joined true false true r = refl
       joined true false false r = refl
       joined false b true r = refl
@@ -82,7 +82,7 @@ module _ (m : Linear) (law : Superposes m) (k t c : ℕ) where
   pub holds_none : (words : List ℕ) → Holds m k t c (words_row words) words (t - 0)
   holds_none words i l =
       let e : t - 0 ≡ t = omega arith in
-      sym (ap (λ (n : ℕ). words_row words i || since m k t c n i) e ∙ ap (λ (b : Bool). words_row words i || b) (none_yet i) ∙ or_false (words_row words i))
+      sym (ap (λ (n : ℕ). words_row words i || since m k t c n i) e ∙ ap (λ (b : Bool). words_row words i || b) (none_yet i) ∙ or-false (words_row words i))
 
   -- one place more is set, by what is read of the outlets
   pub holds_more : (old : Row) (words more : List ℕ) (d p : ℕ) (s : Row) (b : Bool) → k < m.channels → c < m.outlets → d < t

@@ -1,7 +1,7 @@
 -- What the single calls answer is true of the bits for which table and counter stand.
 use Rattle.std.proofs.Common.{◌≡◌, ℕ, zero, suc, ◌+◌, ◌-◌, ◌^◌, ◌<◌, ◌≤◌, Bool, true, false, cond, not, ◌&&◌, eqb, ltb, ◌⊎◌, List, [], ◌∷◌, ◌++◌, map, length, drop, is_ok, Some, Ok, Err, Option, Result, sym, refl, ap, ◌∙◌, subst, ap₂, inl, inr, arith, pow_pos}
 use mathlib.Core.Bool.{and-true}
-use Rattle.std.proofs.lemmas.Bool.{false≢true, and_from, and_parts, not_false, ltb-true, eq-eqb, lt-ltb, le-ltb, cond-true, cond-false}
+use Rattle.std.proofs.lemmas.Bool.{false≢true, and_from, and_parts, not-false, ltb-true, eq-eqb, lt-ltb, le-ltb, cond-true, cond-false}
 use Rattle.bits.specs.Digits.{digit_of}
 use Rattle.equations.specs.declared.Equation.{Equation}
 use Rattle.equations.specs.Counting.{Test, both, number, first, FirstOf}

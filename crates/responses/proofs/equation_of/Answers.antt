@@ -19,7 +19,7 @@ respond-more-requires g c =
           (subst (λ (n : ℕ). c.args.bit.chain < n) c.outlets.ensures c.if-bit-outlets.false);
       span = subst (λ (l : Linear). l.channels * c.cycle-of-cycle.result ≤ 256) same
           (cycles_few c.channels-channels.result m c.args.frame c.cycle-of-cycle.result c.channels-channels.ensures (omega arith)
-          c.in-ok-check.ensures);
+          c.in_ok-check.ensures);
     }
 
 pub loop-channel-preserved : goal.loop-channel-preserved
@@ -29,7 +29,7 @@ loop-channel-preserved g c =
       c.respond-more.ensures.same ∙ c.loop-channel.invariant.0,
       channel_more m (g.met.M.Machine.superposition c.args.machine.now) c.loop-channel.channel t c.args.bit.chain
           c.loop-channel.coefficients c.respond-more.result (g.met.M.Machine.counted c.args.machine.now).channels_some
-          (cycles_few c.channels-channels.result m c.args.frame t c.channels-channels.ensures (omega arith) c.in-ok-check.ensures)
+          (cycles_few c.channels-channels.result m c.args.frame t c.channels-channels.ensures (omega arith) c.in_ok-check.ensures)
           c.loop-channel.invariant.1
           (c.respond-more.ensures.coefficients
           ∙ ap (λ (l : Linear). responded l c.loop-channel.channel t c.args.bit.chain (words_row c.loop-channel.coefficients)) c.loop-channel.invariant.0),
@@ -45,7 +45,7 @@ returns g c =
     record {
       same = c.reset.ensures.same ∙ c.loop-channel.invariant.0;
       answer = bit_accepted c.channels-channels.result m c.args.frame c.args.bit c.channels-channels.ensures chain c.if-bit-frame.false
-          c.in-ok-check.ensures;
+          c.in_ok-check.ensures;
       cells = c.reset.ensures.after;
       equation = λ e is. subst (λ (q : Equation). EquationOf m c.args.frame c.args.bit q) (same_accepted _ e is)
           (equation_stands m (g.met.M.Machine.superposition c.args.machine.now) c.args.frame c.args.bit _ some c.if-bit-frame.false

@@ -12,12 +12,12 @@ use Rattle.session.proofs.Chains.{every_list}
 use Rattle.session.proofs.Openings.{opening_refused, opening_accepted, none_stands, fresh, fresh_is}
 use Rattle.session.proofs.opening.open_session.Goals as goal
 
-pub returns-in-err-check : goal.returns-in-err-check
-returns-in-err-check g c =
+pub returns-in_err-check : goal.returns-in_err-check
+returns-in_err-check g c =
     let m = g.M.Machine.meaning c.args.machine.now in
     let s = session_of c.args.table.now c.args.counter.now in
-    let p = err_from_is_err_and c.from-residual.result c.from-residual.ensures.1 in
-    let e = opening_refused m c.args.frame s c.channels-channels.result _ c.channels-channels.ensures c.in-err-check.ensures in
+    let p = err_from_is_err_and c.from_residual.result c.from_residual.ensures.1 in
+    let e = opening_refused m c.args.frame s c.channels-channels.result _ c.channels-channels.ensures c.in_err-check.ensures in
     record {
       same = refl;
       cells = sym (ap (λ (b : Bool). cond b zeros (g.M.Machine.cells c.args.machine.now)) (ap is_ok p.1));
@@ -33,7 +33,7 @@ returns g c =
     let f = c.args.frame in
     let s = session_of c.args.table.now c.args.counter.now in
     let z = session_of c.clear.new.self (record { count = 0 }) in
-    let accepted = c.in-ok-check.ensures in
+    let accepted = c.in_ok-check.ensures in
     let e = opening_accepted m f s c.channels-channels.result c.channels-channels.ensures accepted in
     let l = c.clear.ensures in
     let outlets : c.clear.new.self.outlets ≡ m.outlets = l.outlets ∙ c.outlets.ensures ∙ ap (λ (k : Linear). k.outlets) c.reset.ensures.same in

@@ -6,5 +6,5 @@ use Rattle.tour.proofs.digits.chain_digits.Goals as goal
 
 pub loop-position-preserved : goal.loop-position-preserved
 loop-position-preserved c =
-    digit_more _ _ _ c.digit.result c.push.ensures.ascii c.in-ok-push.ensures.bytes c.loop-position.position
+    digit_more _ _ _ c.digit.result c.push.ensures.ascii c.in_ok-push.ensures.bytes c.loop-position.position
     (λ p. chains_in c.args.chains.now p c.args.chain) c.loop-position.invariant (c.digit.ensures ∙ ap digit_of c.has.ensures)
