@@ -10,13 +10,13 @@ use Rattle.patterns.proofs.Replays.{refused_here, not_loaded, start_follows, nev
 use Rattle.patterns.proofs.Runs.{whole_runs}
 use Rattle.patterns.proofs.replay.Goals as goal
 
-pub returns-in_err-check-pattern : goal.returns-in_err-check-pattern
-returns-in_err-check-pattern g c =
+pub returns-in_err-check_pattern : goal.returns-in_err-check_pattern
+returns-in_err-check_pattern g c =
     let m = g.M.Machine.meaning c.args.machine.now in
     let b = bench (g.M.Machine.cells c.args.machine.now) c.args.chains.now in
     let p = err_from_is_err_and c.from_residual.result c.from_residual.ensures.1 in
     let e = refused_here c.channels-channels.result m c.args.frame c.args.digits.now b _ c.channels-channels.ensures
-    c.in_err-check-pattern.ensures in
+    c.in_err-check_pattern.ensures in
     record {
       same = refl;
       answer = p.1 ∙ ap (λ (x : Refusal). Err x) p.2 ∙ sym (ap answered e);
@@ -30,7 +30,7 @@ pub returns-in_err-run : goal.returns-in_err-run
 returns-in_err-run g c =
     absurd (start_follows c.channels-channels.result (g.M.Machine.meaning c.args.machine.now) c.args.frame c.args.digits.now
     (bench (g.M.Machine.cells c.args.machine.now) c.args.chains.now) _ c.channels-channels.ensures
-    c.in_ok-check-pattern.ensures c.in_err-run.ensures.answer)
+    c.in_ok-check_pattern.ensures c.in_err-run.ensures.answer)
 
 pub loop-t-init : goal.loop-t-init
 loop-t-init g c = (
@@ -38,15 +38,15 @@ loop-t-init g c = (
   reached_none c.channels-channels.result (g.M.Machine.meaning c.args.machine.now) _ c.args.frame c.args.digits.now
       (bench (g.M.Machine.cells c.args.machine.now) c.args.chains.now)
       (bench (g.M.Machine.cells c.start.new.machine) c.start.new.chains) (run_of c.in_ok-run.run') c.channels-channels.ensures
-      c.in_ok-check-pattern.ensures c.start.ensures.same c.in_ok-run.ensures.answer c.start.ensures.after,
+      c.in_ok-check_pattern.ensures c.start.ensures.same c.in_ok-run.ensures.answer c.start.ensures.after,
 )
 
-pub slice-bounds-word-of-end : goal.slice-bounds-word-of-end
-slice-bounds-word-of-end g c =
+pub slice_bounds-word_of-end : goal.slice_bounds-word_of-end
+slice_bounds-word_of-end g c =
     let e = digits_end c.channels-channels.result (g.M.Machine.meaning c.args.machine.now) _ c.args.frame c.args.digits.now
     (bench (g.M.Machine.cells c.args.machine.now) c.args.chains.now)
     (bench (g.M.Machine.cells c.start.new.machine) c.start.new.chains) (run_of c.in_ok-run.run') c.channels-channels.ensures
-    c.in_ok-check-pattern.ensures c.start.ensures.same c.in_ok-run.ensures.answer c.start.ensures.after
+    c.in_ok-check_pattern.ensures c.start.ensures.same c.in_ok-run.ensures.answer c.start.ensures.after
     c.loop-t.t c.loop-t-test.true in
     search rules
 
@@ -55,9 +55,9 @@ returns-in_err-shift g c =
     let step = reached_more c.channels-channels.result (g.M.Machine.meaning c.args.machine.now) _ c.args.frame c.args.digits.now
     (bench (g.M.Machine.cells c.args.machine.now) c.args.chains.now)
     (bench (g.M.Machine.cells c.start.new.machine) c.start.new.chains) (run_of c.in_ok-run.run') c.channels-channels.ensures
-    c.in_ok-check-pattern.ensures c.start.ensures.same c.in_ok-run.ensures.answer c.start.ensures.after
+    c.in_ok-check_pattern.ensures c.start.ensures.same c.in_ok-run.ensures.answer c.start.ensures.after
     (g.M.Machine.meaning c.loop-t.machine) (underway (run_of c.loop-t.run) (g.M.Machine.cells c.loop-t.machine) c.loop-t.chains)
-    c.loop-t.t c.word-of-word.result c.loop-t.invariant.0 c.loop-t.invariant.1 c.loop-t-test.true c.word-of-word.ensures in
+    c.loop-t.t c.word_of-word.result c.loop-t.invariant.0 c.loop-t.invariant.1 c.loop-t-test.true c.word_of-word.ensures in
     absurd (never_refused _ _ _ step c.in_err-shift.ensures.answer)
 
 pub loop-t-preserved : goal.loop-t-preserved
@@ -66,9 +66,9 @@ loop-t-preserved g c =
     let step = reached_more c.channels-channels.result (g.M.Machine.meaning c.args.machine.now) _ c.args.frame c.args.digits.now
     (bench (g.M.Machine.cells c.args.machine.now) c.args.chains.now)
     (bench (g.M.Machine.cells c.start.new.machine) c.start.new.chains) (run_of c.in_ok-run.run') c.channels-channels.ensures
-    c.in_ok-check-pattern.ensures c.start.ensures.same c.in_ok-run.ensures.answer c.start.ensures.after
+    c.in_ok-check_pattern.ensures c.start.ensures.same c.in_ok-run.ensures.answer c.start.ensures.after
     (g.M.Machine.meaning c.loop-t.machine) so_far
-    c.loop-t.t c.word-of-word.result c.loop-t.invariant.0 c.loop-t.invariant.1 c.loop-t-test.true c.word-of-word.ensures in (
+    c.loop-t.t c.word_of-word.result c.loop-t.invariant.0 c.loop-t.invariant.1 c.loop-t-test.true c.word_of-word.ensures in (
       c.in_ok-shift.ensures.same ∙ c.loop-t.invariant.0,
       c.in_ok-shift.ensures.after ∙ ap (left_by so_far) step,
     )
@@ -80,7 +80,7 @@ returns-in-Ok g c =
     let end = reached_all c.channels-channels.result (g.M.Machine.meaning c.args.machine.now) _ c.args.frame c.args.digits.now
     (bench (g.M.Machine.cells c.args.machine.now) c.args.chains.now)
     (bench (g.M.Machine.cells c.start.new.machine) c.start.new.chains) (run_of c.in_ok-run.run') c.channels-channels.ensures
-    c.in_ok-check-pattern.ensures c.start.ensures.same c.in_ok-run.ensures.answer c.start.ensures.after
+    c.in_ok-check_pattern.ensures c.start.ensures.same c.in_ok-run.ensures.answer c.start.ensures.after
     (underway (run_of c.loop-t.run) (g.M.Machine.cells c.loop-t.machine) c.loop-t.chains) c.loop-t.t c.loop-t.invariant.1 (omega arith) in
     record {
       same = c.loop-t.invariant.0 ∙ c.start.ensures.same;
@@ -96,6 +96,6 @@ returns-in-Err g c =
     let end = reached_all c.channels-channels.result (g.M.Machine.meaning c.args.machine.now) _ c.args.frame c.args.digits.now
     (bench (g.M.Machine.cells c.args.machine.now) c.args.chains.now)
     (bench (g.M.Machine.cells c.start.new.machine) c.start.new.chains) (run_of c.in_ok-run.run') c.channels-channels.ensures
-    c.in_ok-check-pattern.ensures c.start.ensures.same c.in_ok-run.ensures.answer c.start.ensures.after
+    c.in_ok-check_pattern.ensures c.start.ensures.same c.in_ok-run.ensures.answer c.start.ensures.after
     (underway (run_of c.loop-t.run) (g.M.Machine.cells c.loop-t.machine) c.loop-t.chains) c.loop-t.t c.loop-t.invariant.1 (omega arith) in
     absurd (never_both _ _ (c.in-Err.ensures ∙ end.closes))

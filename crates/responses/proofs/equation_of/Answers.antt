@@ -17,15 +17,15 @@ respond-more-requires g c =
           (subst (λ (n : ℕ). c.loop-channel.channel < n) c.channels-channels.ensures c.loop-channel-test.true);
       outlets = subst (λ (l : Linear). c.args.bit.chain < l.outlets) same
           (subst (λ (n : ℕ). c.args.bit.chain < n) c.outlets.ensures c.if-bit-outlets.false);
-      span = subst (λ (l : Linear). l.channels * c.cycle-of-cycle.result ≤ 256) same
-          (cycles_few c.channels-channels.result m c.args.frame c.cycle-of-cycle.result c.channels-channels.ensures (omega arith)
+      span = subst (λ (l : Linear). l.channels * c.cycle_of-cycle.result ≤ 256) same
+          (cycles_few c.channels-channels.result m c.args.frame c.cycle_of-cycle.result c.channels-channels.ensures (omega arith)
           c.in_ok-check.ensures);
     }
 
 pub loop-channel-preserved : goal.loop-channel-preserved
 loop-channel-preserved g c =
     let m = g.M.Machine.meaning c.args.machine.now in
-    let t = c.cycle-of-cycle.result in (
+    let t = c.cycle_of-cycle.result in (
       c.respond-more.ensures.same ∙ c.loop-channel.invariant.0,
       channel_more m (g.met.M.Machine.superposition c.args.machine.now) c.loop-channel.channel t c.args.bit.chain
           c.loop-channel.coefficients c.respond-more.result (g.met.M.Machine.counted c.args.machine.now).channels_some
@@ -38,7 +38,7 @@ loop-channel-preserved g c =
 pub returns : goal.returns
 returns g c =
     let m = g.M.Machine.meaning c.args.machine.now in
-    let t = c.cycle-of-cycle.result in
+    let t = c.cycle_of-cycle.result in
     let some = (g.met.M.Machine.counted c.args.machine.now).channels_some in
     let chain = subst (λ (n : ℕ). c.args.bit.chain < n) c.outlets.ensures c.if-bit-outlets.false in
     let whole : c.loop-channel.channel ≡ c.channels-channels.result = omega arith in
@@ -50,6 +50,6 @@ returns g c =
       equation = λ e is. subst (λ (q : Equation). EquationOf m c.args.frame c.args.bit q) (same_accepted _ e is)
           (equation_stands m (g.met.M.Machine.superposition c.args.machine.now) c.args.frame c.args.bit _ some c.if-bit-frame.false
           (c.loop-channel.invariant.1 ∙ ap (λ (k : ℕ). below m k t c.args.bit.chain) (whole ∙ c.channels-channels.ensures)
-          ∙ below_all m t c.args.bit.chain some ∙ ap (λ (n : ℕ). response m n c.args.bit.chain) c.cycle-of-cycle.ensures)
+          ∙ below_all m t c.args.bit.chain some ∙ ap (λ (n : ℕ). response m n c.args.bit.chain) c.cycle_of-cycle.ensures)
           refl);
     }

@@ -17,8 +17,8 @@ loop-d-init g c =
       holds_none m (g.met.M.Machine.superposition c.reset.new.self) c.args.channel c.args.cycles c.args.chain c.args.coefficients,
     )
 
-pub place-of-place-requires : goal.place-of-place-requires
-place-of-place-requires g c =
+pub place_of-place-requires : goal.place_of-place-requires
+place_of-place-requires g c =
     let channels = c.channels-channels.ensures in
     record {
       begun = omega arith;
@@ -39,13 +39,13 @@ loop-d-preserved g c =
       impulse_goes_on m s c.args.channel c.loop-d.d at,
       omega arith,
       holds_more m (g.met.M.Machine.superposition c.reset.new.self) c.args.channel c.args.cycles c.args.chain
-          (words_row c.args.coefficients) c.loop-d.words c.with-bit-more.result c.loop-d.d c.place-of-place.result s c.has.result
+          (words_row c.args.coefficients) c.loop-d.words c.with_bit-more.result c.loop-d.d c.place_of-place.result s c.has.result
           (subst (λ (l : Linear). c.args.channel < l.channels) (sym c.reset.ensures.same) c.requires.channels)
           (subst (λ (l : Linear). c.args.chain < l.outlets) (sym c.reset.ensures.same) c.requires.outlets)
           c.loop-d-test.true c.loop-d.invariant.3
-          (c.place-of-place.ensures ∙ ap (λ (k : ℕ). place_of k (c.args.cycles - c.loop-d.d) c.args.channel) channels) at
+          (c.place_of-place.ensures ∙ ap (λ (k : ℕ). place_of k (c.args.cycles - c.loop-d.d) c.args.channel) channels) at
           (c.has.ensures ∙ ap (λ (w : ℕ). bit_of w c.args.chain) (c.read.ensures ∙ ap (λ (l : Linear). shown l s) same))
-          c.with-bit-more.ensures,
+          c.with_bit-more.ensures,
     )
 
 pub returns : goal.returns

@@ -6,8 +6,8 @@ use Rattle.session.proofs.Openings.{halved, few}
 use Rattle.session.proofs.Truths.{free_true}
 use Rattle.session.proofs.readings.free_count.Goals as goal
 
-pub overflow-sub-result : goal.overflow-sub-result
-overflow-sub-result c = let h = few c.args.table.now c.args.counter.now.count (omega arith) in omega (arith, c.variables.ensures)
+pub overflow_sub-result : goal.overflow_sub-result
+overflow_sub-result c = let h = few c.args.table.now c.args.counter.now.count (omega arith) in omega (arith, c.variables.ensures)
 
 pub returns : goal.returns
 returns c =

@@ -33,15 +33,15 @@ returns c =
     let n = c.args.counter.now.count in
     let s = session_of t c.args.counter.now in
     let memory = c.args.digits.now in
-    let y = words_row c.first-solution.result in
+    let y = words_row c.first_solution.result in
     let v : ℕ = c.variables-variables.result in
     let e = pattern_read t n memory y c.if-counter-table.false (subst (λ (k : ℕ). k ≤ length memory) c.variables-variables.ensures c.if-digits-variables.false)
-    c.first-solution.ensures in
-    let after = c.write-digits.ensures ∙ ap (λ (k : ℕ). digits_of k y ++ drop k memory) c.variables-variables.ensures in
+    c.first_solution.ensures in
+    let after = c.write_digits.ensures ∙ ap (λ (k : ℕ). digits_of k y ++ drop k memory) c.variables-variables.ensures in
     record {
       answer = sym (ap answer_of e);
       after = after ∙ sym (ap (left_by memory) e);
       halved = halved t n;
       truly = λ m bits st.
-          pattern_true m t.frame s bits st memory (Ok tt) c.write-digits.new.digits (sym (ap answer_of e)) (after ∙ sym (ap (left_by memory) e)) (halved t n);
+          pattern_true m t.frame s bits st memory (Ok tt) c.write_digits.new.digits (sym (ap answer_of e)) (after ∙ sym (ap (left_by memory) e)) (halved t n);
     }

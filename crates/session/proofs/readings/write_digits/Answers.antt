@@ -8,4 +8,4 @@ pub loop-i-preserved : goal.loop-i-preserved
 loop-i-preserved c =
     let room = c.requires in
     digits_more c.loop-i.i c.digit.result (words_row c.args.words) c.args.digits.now c.loop-i.digits (omega arith) c.loop-i.invariant
-    (c.digit.ensures ∙ ap digit_of c.has-bit.ensures)
+    (c.digit.ensures ∙ ap digit_of c.has_bit.ensures)

@@ -20,7 +20,7 @@ loop-rest-init c =
     )
 
 -- the channel that a turn feeds
-module _ (c : goal.After-fill·1) where
+module _ (c : goal.After-fill-1) where
   channel : ℕ
   channel = count_trailing_zeros 64 c.loop-rest.rest
 
@@ -37,9 +37,9 @@ module _ (c : goal.After-fill·1) where
   smaller : bit_xor c.loop-rest.rest ((1 * 2 ^ channel) % 2 ^ 64) < c.loop-rest.rest
   smaller = subst (λ (x : ℕ). bit_xor c.loop-rest.rest x < c.loop-rest.rest) (sym (one_shl channel 64 lowest.0)) (clear_less c.loop-rest.rest channel lowest.1)
 
-pub overflow-shl-fill : goal.overflow-shl-fill
+pub overflow_shl-fill : goal.overflow_shl-fill
 unfolding channel
-overflow-shl-fill c = lt_of_lt_of_le (inside c) c.args.self.now.few
+overflow_shl-fill c = lt_of_lt_of_le (inside c) c.args.self.now.few
 
 pub loop-rest-smaller : goal.loop-rest-smaller
 unfolding channel

@@ -3,8 +3,8 @@ use Rattle.scan.specs.Memory.{chains_in}
 use Rattle.scan.proofs.Memory.{read_fits, read_enters}
 use Rattle.scan.proofs.loading.Loading.shift.Goals as goal
 
-pub move-up-requires : goal.move-up-requires
-move-up-requires g c = record {
+pub move_up-requires : goal.move_up-requires
+move_up-requires g c = record {
   room = c.if-chains-self.false;
   fits = read_fits (g.M.Machine.meaning c.args.machine.now) _ _ _ _ c.shift.ensures.same (sym c.outlets.ensures ∙ c.if-outlets-self.false) c.read.ensures;
 }
@@ -16,5 +16,5 @@ returns-then-self-2 g c =
     let memory = c.args.chains.now in
     let moved =
     read_enters m _ run.outlets c.read.result (g.M.Machine.cells c.shift.new.self) c.shift.ensures.same
-    (sym c.outlets.ensures ∙ c.if-outlets-self.false) c.read.ensures run.shifts (chains_in memory) memory c.move-up.new.words c.move-up.ensures in
+    (sym c.outlets.ensures ∙ c.if-outlets-self.false) c.read.ensures run.shifts (chains_in memory) memory c.move_up.new.words c.move_up.ensures in
     search rules

@@ -11,5 +11,5 @@ returns c =
     let value = get_or c.args.values.now p 0 in
     let unknown = get_or c.args.unknowns.now p 0 in
     let known : c.low.result ≡ word_of u.chains (λ i. bit_of value i && not (bit_of unknown i)) =
-    c.low.ensures ∙ ap (λ (s : Row). word_of u.chains s) (bits_without value unknown (c.type-inv.values p).fits (c.type-inv.unknowns p).fits) in
+    c.low.ensures ∙ ap (λ (s : Row). word_of u.chains s) (bits_without value unknown (c.type_inv.values p).fits (c.type_inv.unknowns p).fits) in
     search rules

@@ -12,7 +12,7 @@ pub write-requires : goal.write-requires
 write-requires c =
     let t = c.args.self.now in
     let v : ℕ = variables t.channels t.frame in
-    let lead = some_is c.lead.result c.if-is-some.ensures in
+    let lead = some_is c.lead.result c.if-is_some.ensures in
     let is = sym c.lead.ensures ∙ lead.1 in
     record {
       written = c.requires.written;
@@ -22,11 +22,11 @@ write-requires c =
       clear = c.reduce-reduced.ensures.clear;
     }
 
-pub returns-then-is-some : goal.returns-then-is-some
-returns-then-is-some c =
+pub returns-then-is_some : goal.returns-then-is_some
+returns-then-is_some c =
     let t = c.args.self.now in
     let v : ℕ = variables t.channels t.frame in
-    let lead = some_is c.lead.result c.if-is-some.ensures in
+    let lead = some_is c.lead.result c.if-is_some.ensures in
     let is = sym c.lead.ensures ∙ lead.1 in
     let e = c.write.ensures in
     let few = t.few in
@@ -46,7 +46,7 @@ returns-then-is-some c =
 pub returns-then-reduced : goal.returns-then-reduced
 returns-then-reduced c =
     let t = c.args.self.now in
-    let is = sym c.lead.ensures ∙ none_is c.lead.result c.if-is-some.ensures in
+    let is = sym c.lead.ensures ∙ none_is c.lead.result c.if-is_some.ensures in
     record {
       answer = conflict_answer t c.args.count c.args.equation c.reduce-reduced.result c.requires.written c.requires.within c.reduce-reduced.ensures
           is c.if-reduced.true;
@@ -57,7 +57,7 @@ returns-then-reduced c =
 pub returns : goal.returns
 returns c =
     let t = c.args.self.now in
-    let is = sym c.lead.ensures ∙ none_is c.lead.result c.if-is-some.ensures in
+    let is = sym c.lead.ensures ∙ none_is c.lead.result c.if-is_some.ensures in
     record {
       answer = follows_answer t c.args.count c.args.equation c.reduce-reduced.result c.requires.written c.requires.within c.reduce-reduced.ensures
           is c.if-reduced.false;

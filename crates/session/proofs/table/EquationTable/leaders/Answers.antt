@@ -4,7 +4,7 @@ use Rattle.equations.proofs.Leads.{lead_top}
 use Rattle.equations.specs.Systems.{row_at}
 use Rattle.session.specs.Leaders.{Leaders}
 use Rattle.session.proofs.Solving.{leaders_none, leaders_more, leaders_skip}
-use Rattle.session.proofs.table.EquationTable.leaders.Goals.{in-Some, in-default}
+use Rattle.session.proofs.table.EquationTable.leaders.Goals.{in-Some, in_default}
 use Rattle.session.proofs.table.EquationTable.leaders.Goals as goal
 
 pub loop-k-init : goal.loop-k-init
@@ -26,7 +26,7 @@ loop-k-preserved c =
           ))
       | in-default w ↦ (
           subst (λ (x : List (Option ℕ)). Leaders rows (k + 1) x × (length x ≡ 256)) (sym w.leaders-is)
-          (leaders_skip rows k old (sym w.in-default.ensures) c.loop-k.invariant.0, c.loop-k.invariant.1))
+          (leaders_skip rows k old (sym w.in_default.ensures) c.loop-k.invariant.0, c.loop-k.invariant.1))
     ]
 
 pub returns : goal.returns

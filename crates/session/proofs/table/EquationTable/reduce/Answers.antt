@@ -3,7 +3,7 @@ use Rattle.equations.specs.declared.Equation.{Equation}
 use Rattle.equations.specs.Systems.{Reduced}
 use Rattle.equations.proofs.Reductions.{reduced_none, row_added, row_passed, row_leads}
 use Rattle.scan.specs.Frames.{variables}
-use Rattle.session.proofs.table.EquationTable.reduce.Goals.{in-Some+then-has, in-Some+else-has, in-default}
+use Rattle.session.proofs.table.EquationTable.reduce.Goals.{in-Some+then-has, in-Some+else-has, in_default}
 use Rattle.session.proofs.table.EquationTable.reduce.Goals as goal
 
 pub loop-k-init : goal.loop-k-init
@@ -25,7 +25,7 @@ loop-k-preserved c =
           w.in-Some.lead (sym w.in-Some.ensures) (sym w.if-has.ensures)))
       | in-default w ↦ absurd (
           row_leads v t.rows t.written t.led t.clear k c.args.equation c.loop-k.reduced (omega arith) (omega arith) c.loop-k.invariant
-          (sym w.in-default.ensures))
+          (sym w.in_default.ensures))
     ]
 
 pub returns : goal.returns

@@ -15,8 +15,8 @@ bounds-self-count c =
     let room = kept.room in
     omega arith
 
-pub invariant-of-self : goal.invariant-of-self
-invariant-of-self c =
+pub invariant_of-self : goal.invariant_of-self
+invariant_of-self c =
     let t = c.args.self.now in
     let few = t.few in
     let long = t.long in

@@ -24,7 +24,7 @@ returns-in_err-equation g c =
     record {
       named = refl;
       found = refl;
-      same = c.equation-of.ensures.same;
+      same = c.equation_of.ensures.same;
       cells = c.in_err-equation.ensures.cells
           ∙ out_cells m t n b c.if-count-table.false (sym c.channels.ensures ∙ c.if-channels-table.false) (sym c.outlets.ensures ∙ c.if-outlets-table.false) _ answer
           (g.M.Machine.cells c.args.machine.now);
@@ -55,7 +55,7 @@ returns-in_err-fall g c =
     record {
       named = refl;
       found = refl;
-      same = c.equation-of.ensures.same;
+      same = c.equation_of.ensures.same;
       cells = c.in_ok-equation.ensures.cells
           ∙ in_cells m t n b c.if-count-table.false (sym c.channels.ensures ∙ c.if-channels-table.false) (sym c.outlets.ensures ∙ c.if-outlets-table.false) answer e equation
           (g.M.Machine.cells c.args.machine.now);
@@ -79,7 +79,7 @@ returns g c =
     record {
       named = refl;
       found = refl;
-      same = c.equation-of.ensures.same;
+      same = c.equation_of.ensures.same;
       cells = c.in_ok-equation.ensures.cells
           ∙ in_cells m t n b c.if-count-table.false (sym c.channels.ensures ∙ c.if-channels-table.false) (sym c.outlets.ensures ∙ c.if-outlets-table.false) answer e is
           (g.M.Machine.cells c.args.machine.now);

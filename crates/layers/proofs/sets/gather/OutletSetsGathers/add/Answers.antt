@@ -6,8 +6,8 @@ use Rattle.layers.specs.Views.{sets_read}
 use Rattle.layers.specs.Mixes.{set_new}
 use Rattle.layers.proofs.sets.gather.OutletSetsGathers.add.Goals as goal
 
-pub invariant-of-self : goal.invariant-of-self
-invariant-of-self c =
+pub invariant_of-self : goal.invariant_of-self
+invariant_of-self c =
     let t = c.args.self.now in
     let long = t.whole in (
       rw length-set t.whole,

@@ -5,8 +5,8 @@ use Rattle.registers.specs.Views.{inlets_read}
 use Rattle.registers.specs.Laws.{shifted_fits, shifted_is}
 use Rattle.registers.proofs.galois.shifts.GaloisRegisterMachine.shift.Goals as goal
 
-pub invariant-of-self : goal.invariant-of-self
-invariant-of-self c =
+pub invariant_of-self : goal.invariant_of-self
+invariant_of-self c =
     let m = c.args.self.now in
     let t = m.taps in
     let fits =

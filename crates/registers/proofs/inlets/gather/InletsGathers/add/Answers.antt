@@ -6,8 +6,8 @@ use Rattle.bits.proofs.Arrays.{all_more}
 use Rattle.registers.proofs.Rules.{inlet_new}
 use Rattle.registers.proofs.inlets.gather.InletsGathers.add.Goals as goal
 
-pub invariant-of-self : goal.invariant-of-self
-invariant-of-self c =
+pub invariant_of-self : goal.invariant_of-self
+invariant_of-self c =
     let t = c.args.self.now in
     let long = t.whole in
     (t.some, (t.few, (rw length-set t.whole, (omega arith, (all_more t.cells t.channels c.args.cell 0 (omega arith) (λ (x : ℕ). x < t.size) t.inside c.if-cell-self.false, tt)))))

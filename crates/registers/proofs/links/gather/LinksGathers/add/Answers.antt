@@ -8,11 +8,11 @@ use Rattle.bits.proofs.Arrays.{all_more}
 use Rattle.registers.proofs.Rules.{link_new, once_more}
 use Rattle.registers.proofs.links.gather.LinksGathers.add.Goals as goal
 
-pub invariant-of-self : goal.invariant-of-self
-invariant-of-self c =
+pub invariant_of-self : goal.invariant_of-self
+invariant_of-self c =
     let t = c.args.self.now in
     let long = t.whole in
-    let law : Lawful t.size c.args.link = (c.if-from-self.false, c.if-to-self.false, λ e. c.if-to-next-cell.false (e ∙ sym c.next-cell.ensures)) in (
+    let law : Lawful t.size c.args.link = (c.if-from-self.false, c.if-to-self.false, λ e. c.if-to-next_cell.false (e ∙ sym c.next_cell.ensures)) in (
       t.some,
       (
         t.few,
@@ -33,7 +33,7 @@ pub returns : goal.returns
 returns c =
     let t = c.args.self.now in
     let long = t.whole in
-    let law : Lawful t.size c.args.link = (c.if-from-self.false, c.if-to-self.false, λ e. c.if-to-next-cell.false (e ∙ sym c.next-cell.ensures)) in
+    let law : Lawful t.size c.args.link = (c.if-from-self.false, c.if-to-self.false, λ e. c.if-to-next_cell.false (e ∙ sym c.next_cell.ensures)) in
     let front : length (take t.count t.links) ≡ t.count = length-take-le t.count t.links (omega arith) in
     let line = link_new (links_read t) c.args.link law c.if-has.ensures (omega arith) in
     record {

@@ -15,8 +15,8 @@ returns-then-has c =
     let line = tap_repeated (taps_read c.args.self.now) c.args.tap c.if-tap-lt1.false c.if-tap-self.false c.if-has.ensures in
     record { answer = sym (ap answer_of line); after = sym (ap (left_by _) line) }
 
-pub invariant-of-self : goal.invariant-of-self
-invariant-of-self c =
+pub invariant_of-self : goal.invariant_of-self
+invariant_of-self c =
     let t = c.args.self.now in
     let few : c.args.tap < 64 = omega arith in
     let one : (1 * 2 ^ c.args.tap) % 2 ^ 64 < 2 ^ t.size = rw one_shl (pow-lt c.if-tap-self.false) in (
