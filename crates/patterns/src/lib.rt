@@ -46,12 +46,12 @@ pub fn replay<M: Machine>(
     digits: &[u8],
     chains: &mut [u64],
 ) -> Result<Loaded, Refusal>
-    ensures same { meaning machine.new ≡ meaning machine.old }
-    ensures answer { result ≡ answered (replaying (meaning machine.old) frame digits.now (bench (cells machine.old) chains.old)) }
-    ensures after { bench (cells machine.new) chains.new ≡ bench_after (bench (cells machine.old) chains.old) (replaying (meaning machine.old) frame digits.now (bench (cells machine.old) chains.old)) }
-    ensures loaded { is_ok result ≡ true → HoldsItsLoad (meaning machine.old) frame (digit_row digits.now) chains.new }
-    ensures positions { PositionEndsWithItsOutlet (meaning machine.old) frame }
-    ensures runs { WholeRuns (meaning machine.old) frame }
+    ensures same { M.meaning machine.new ≡ M.meaning machine.old }
+    ensures answer { result ≡ answered (replaying (M.meaning machine.old) frame digits.now (bench (M.cells machine.old) chains.old)) }
+    ensures after { bench (M.cells machine.new) chains.new ≡ bench_after (bench (M.cells machine.old) chains.old) (replaying (M.meaning machine.old) frame digits.now (bench (M.cells machine.old) chains.old)) }
+    ensures loaded { is_ok result ≡ true → HoldsItsLoad (M.meaning machine.old) frame (digit_row digits.now) chains.new }
+    ensures positions { PositionEndsWithItsOutlet (M.meaning machine.old) frame }
+    ensures runs { WholeRuns (M.meaning machine.old) frame }
 {
     let channels = machine.channels();
     check_pattern(channels, frame, digits, chains.len())?;

@@ -26,11 +26,11 @@ pub(crate) fn respond<M: Machine>(
     cycles: usize,
     chain: usize,
 ) -> [u64; 4]
-    requires channels { channel < (meaning machine.old).channels }
-    requires outlets { chain < (meaning machine.old).outlets }
-    requires span { (meaning machine.old).channels * cycles ≤ 256 }
-    ensures same { meaning machine.new ≡ meaning machine.old }
-    ensures coefficients { words_row result ≡ responded (meaning machine.old) channel cycles chain (words_row coefficients) }
+    requires channels { channel < (M.meaning machine.old).channels }
+    requires outlets { chain < (M.meaning machine.old).outlets }
+    requires span { (M.meaning machine.old).channels * cycles ≤ 256 }
+    ensures same { M.meaning machine.new ≡ M.meaning machine.old }
+    ensures coefficients { words_row result ≡ responded (M.meaning machine.old) channel cycles chain (words_row coefficients) }
 {
     let channels = machine.channels();
     let mut words = coefficients;

@@ -32,10 +32,10 @@ pub fn equation_of<M: Machine>(
     frame: Frame,
     bit: CareBit,
 ) -> Result<Equation, Refusal>
-    ensures same { meaning machine.new ≡ meaning machine.old }
-    ensures answer { answer_of result ≡ in_limits frame (in_span (meaning machine.old).channels frame (in_chains (meaning machine.old) frame bit (Ok tt))) }
-    ensures cells { cells machine.new ≡ (if is_ok result then zeros else cells machine.old) }
-    ensures equation { (e : Equation) → result ≡ Ok e → EquationOf (meaning machine.old) frame bit e }
+    ensures same { M.meaning machine.new ≡ M.meaning machine.old }
+    ensures answer { answer_of result ≡ in_limits frame (in_span (M.meaning machine.old).channels frame (in_chains (M.meaning machine.old) frame bit (Ok tt))) }
+    ensures cells { M.cells machine.new ≡ (if is_ok result then zeros else M.cells machine.old) }
+    ensures equation { (e : Equation) → result ≡ Ok e → EquationOf (M.meaning machine.old) frame bit e }
 {
     let channels = machine.channels();
     frame.check(channels)?;

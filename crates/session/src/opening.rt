@@ -20,12 +20,12 @@ pub fn open_session<M: Machine>(
     counter: &mut EquationCounter,
     frame: Frame,
 ) -> Result<(), Refusal>
-    ensures same { meaning machine.new ≡ meaning machine.old }
-    ensures cells { cells machine.new ≡ (if is_ok result then zeros else cells machine.old) }
-    ensures answer { result ≡ answer_of (opening (meaning machine.old) frame (session_of table.old counter.old)) }
-    ensures after { session_of table.new counter.new ≡ left_by (session_of table.old counter.old) (opening (meaning machine.old) frame (session_of table.old counter.old)) }
-    ensures stands { is_ok result ≡ true → Stands (meaning machine.old) frame (session_of table.new counter.new) [] }
-    ensures lists { is_ok result ≡ true → EveryListIsAnsweredTruly (meaning machine.old) frame (session_of table.new counter.new) }
+    ensures same { M.meaning machine.new ≡ M.meaning machine.old }
+    ensures cells { M.cells machine.new ≡ (if is_ok result then zeros else M.cells machine.old) }
+    ensures answer { result ≡ answer_of (opening (M.meaning machine.old) frame (session_of table.old counter.old)) }
+    ensures after { session_of table.new counter.new ≡ left_by (session_of table.old counter.old) (opening (M.meaning machine.old) frame (session_of table.old counter.old)) }
+    ensures stands { is_ok result ≡ true → Stands (M.meaning machine.old) frame (session_of table.new counter.new) [] }
+    ensures lists { is_ok result ≡ true → EveryListIsAnsweredTruly (M.meaning machine.old) frame (session_of table.new counter.new) }
 {
     let channels = machine.channels();
     frame.check(channels)?;

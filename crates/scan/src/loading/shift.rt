@@ -17,9 +17,9 @@ impl Loading {
         word: u64,
         chains: &mut [u64],
     ) -> Result<(), Refusal>
-        ensures same { meaning machine.new ≡ meaning machine.old }
-        ensures answer { result ≡ answer_of (shifting (meaning machine.old) (underway (run_of self.old) (cells machine.old) chains.old) word) }
-        ensures after { underway (run_of self.new) (cells machine.new) chains.new ≡ left_by (underway (run_of self.old) (cells machine.old) chains.old) (shifting (meaning machine.old) (underway (run_of self.old) (cells machine.old) chains.old) word) }
+        ensures same { M.meaning machine.new ≡ M.meaning machine.old }
+        ensures answer { result ≡ answer_of (shifting (M.meaning machine.old) (underway (run_of self.old) (M.cells machine.old) chains.old) word) }
+        ensures after { underway (run_of self.new) (M.cells machine.new) chains.new ≡ left_by (underway (run_of self.old) (M.cells machine.old) chains.old) (shifting (M.meaning machine.old) (underway (run_of self.old) (M.cells machine.old) chains.old) word) }
     {
         if machine.channels() != self.channels || machine.outlets() != self.outlets {
             return Err(Refusal::OutOfRange);

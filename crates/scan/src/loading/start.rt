@@ -16,9 +16,9 @@ impl Loading {
         frame: Frame,
         chains: &mut [u64],
     ) -> Result<Loading, Refusal>
-        ensures same { meaning machine.new ≡ meaning machine.old }
-        ensures answer { ok_map run_of result ≡ answered (starting (meaning machine.old) frame (bench (cells machine.old) chains.old)) }
-        ensures after { bench (cells machine.new) chains.new ≡ bench_after (bench (cells machine.old) chains.old) (starting (meaning machine.old) frame (bench (cells machine.old) chains.old)) }
+        ensures same { M.meaning machine.new ≡ M.meaning machine.old }
+        ensures answer { ok_map run_of result ≡ answered (starting (M.meaning machine.old) frame (bench (M.cells machine.old) chains.old)) }
+        ensures after { bench (M.cells machine.new) chains.new ≡ bench_after (bench (M.cells machine.old) chains.old) (starting (M.meaning machine.old) frame (bench (M.cells machine.old) chains.old)) }
     {
         let channels = machine.channels();
         frame.check(channels)?;

@@ -21,10 +21,10 @@ impl Trial<'_> {
     ) -> Result<usize, Refusal>
         ensures named { self.new.counter.ghost_name ≡ self.old.counter.ghost_name }
         ensures found { self.new.found ≡ self.old.found }
-        ensures same { meaning machine.new ≡ meaning machine.old }
-        ensures cells { cells machine.new ≡ cells_left (meaning machine.old) (session_of table.old self.old.counter.now) bit (cells machine.old) }
-        ensures proposed { Proposed (meaning machine.old) (session_of table.old self.old.counter.now) bit result (session_of table.new self.new.counter.now) }
-        ensures truly { ToldTruly (meaning machine.old) (session_of table.old self.old.counter.now) bit result (session_of table.new self.new.counter.now) }
+        ensures same { M.meaning machine.new ≡ M.meaning machine.old }
+        ensures cells { M.cells machine.new ≡ cells_left (M.meaning machine.old) (session_of table.old self.old.counter.now) bit (M.cells machine.old) }
+        ensures proposed { Proposed (M.meaning machine.old) (session_of table.old self.old.counter.now) bit result (session_of table.new self.new.counter.now) }
+        ensures truly { ToldTruly (M.meaning machine.old) (session_of table.old self.old.counter.now) bit result (session_of table.new self.new.counter.now) }
     {
         let count = self.counter.count;
         if count > table.written {

@@ -9,13 +9,12 @@ use Rattle.layers.proofs.sets.gather.OutletSetsGathers.add.Goals as goal
 pub invariant_of-self : goal.invariant_of-self
 invariant_of-self c =
     let t = c.args.self.now in
-    let long = t.whole in (
-      rw length-set t.whole,
-      (
-        omega arith,
-        (all_more t.words t.outlets c.args.set 0 (omega arith) (λ (x : ℕ). 0 < x) t.filled (omega arith), tt),
-      ),
-    )
+    let long = t.whole in
+    record {
+      whole = rw length-set t.whole;
+      room = omega arith;
+      filled = all_more t.words t.outlets c.args.set 0 (omega arith) (λ (x : ℕ). 0 < x) t.filled (omega arith);
+    }
 
 pub returns : goal.returns
 returns c =

@@ -10,7 +10,13 @@ pub invariant_of-self : goal.invariant_of-self
 invariant_of-self c =
     let t = c.args.self.now in
     let long = t.whole in
-    (t.some, (t.few, (rw length-set t.whole, (omega arith, (all_more t.cells t.channels c.args.cell 0 (omega arith) (λ (x : ℕ). x < t.size) t.inside c.if-cell-self.false, tt)))))
+    record {
+      some = t.some;
+      few = t.few;
+      whole = rw length-set t.whole;
+      room = omega arith;
+      inside = all_more t.cells t.channels c.args.cell 0 (omega arith) (λ (x : ℕ). x < t.size) t.inside c.if-cell-self.false;
+    }
 
 pub returns : goal.returns
 returns c =

@@ -12,22 +12,15 @@ pub invariant_of-self : goal.invariant_of-self
 invariant_of-self c =
     let t = c.args.self.now in
     let long = t.whole in
-    let law : Lawful t.size c.args.link = (c.if-from-self.false, c.if-to-self.false, λ e. c.if-to-next_cell.false (e ∙ sym c.next_cell.ensures)) in (
-      t.some,
-      (
-        t.few,
-        (
-          rw length-set t.whole,
-          (
-            omega arith,
-            (
-              all_more t.links t.count c.args.link no_link (omega arith) (Lawful t.size) t.lawful law,
-              (once_more t.links t.count c.args.link (omega arith) t.once (sym c.if-has.ensures), tt),
-            ),
-          ),
-        ),
-      ),
-    )
+    let law : Lawful t.size c.args.link = (c.if-from-self.false, c.if-to-self.false, λ e. c.if-to-next_cell.false (e ∙ sym c.next_cell.ensures)) in
+    record {
+      some = t.some;
+      few = t.few;
+      whole = rw length-set t.whole;
+      room = omega arith;
+      lawful = all_more t.links t.count c.args.link no_link (omega arith) (Lawful t.size) t.lawful law;
+      once = once_more t.links t.count c.args.link (omega arith) t.once (sym c.if-has.ensures);
+    }
 
 pub returns : goal.returns
 returns c =

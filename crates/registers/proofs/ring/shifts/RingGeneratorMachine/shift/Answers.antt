@@ -12,7 +12,7 @@ invariant_of-self c =
     let fits =
     shifted_fits t.size m.inlets.size c.args.word c.turn.result c.feed.result (inlets_read m.inlets).into (ring_turn t.size (links_read t).links)
     (bit_of m.cells) m.alike c.turn.ensures c.feed.ensures in
-    (m.alike, (m.some, (fits, tt)))
+    record { alike = m.alike; some = m.some; held = fits }
 
 pub returns : goal.returns
 returns c =

@@ -19,20 +19,15 @@ pub invariant_of-self : goal.invariant_of-self
 invariant_of-self c =
     let t = c.args.self.now in
     let few : c.args.tap < 64 = omega arith in
-    let one : (1 * 2 ^ c.args.tap) % 2 ^ 64 < 2 ^ t.size = rw one_shl (pow-lt c.if-tap-self.false) in (
-      t.some,
-      (
-        t.few,
-        (
-          or_lt t.size t.set _ t.within one,
-          (
-            ap (λ (s : Row). s 0) (bits_with t.set c.args.tap few)
-                ∙ ap (λ (b : Bool). b || eqb c.args.tap 0) t.apart ∙ ne_eqb c.args.tap 0 (λ z. omega arith),
-            tt,
-          ),
-        ),
-      ),
-    )
+    let one : (1 * 2 ^ c.args.tap) % 2 ^ 64 < 2 ^ t.size = rw one_shl (pow-lt c.if-tap-self.false) in
+    record {
+      some = t.some;
+      few = t.few;
+      within = or_lt t.size t.set _ t.within one;
+      apart =
+          ap (λ (s : Row). s 0) (bits_with t.set c.args.tap few)
+          ∙ ap (λ (b : Bool). b || eqb c.args.tap 0) t.apart ∙ ne_eqb c.args.tap 0 (λ z. omega arith);
+    }
 
 pub returns : goal.returns
 returns c =
