@@ -21,7 +21,7 @@ loop-v-preserved c =
           solving_led t.rows n v y (words_row c.match-leaders-v.solution) k _ small there.0 there.1 (λ i j l h. t.apart i j l (omega arith))
           (differ (row_at t.rows k).right w.product.result ∙ ap (xor (row_at t.rows k).right) w.product.ensures)
           (ap words_row w.solution-is ∙ w.with_bit-more.ensures) c.loop-v.invariant)
-      | in-default w ↦ (
+      | in_default w ↦ (
           subst (λ (x : List ℕ). Solving t.rows n (v + 1) (words_row x)) (sym w.solution-is)
           (solving_free t.rows n v y (leader_missing t.rows n v c.leaders-leaders.result c.leaders-leaders.ensures small w.in_default.not-Some) c.loop-v.invariant))
     ]

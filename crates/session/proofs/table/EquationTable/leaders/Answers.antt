@@ -24,7 +24,7 @@ loop-k-preserved c =
             leaders_more rows k old w.in-Some.lead c.loop-k.invariant.1 (sym w.in-Some.ensures) c.loop-k.invariant.0,
             length-set old w.in-Some.lead (Some k) ∙ c.loop-k.invariant.1,
           ))
-      | in-default w ↦ (
+      | in_default w ↦ (
           subst (λ (x : List (Option ℕ)). Leaders rows (k + 1) x × (length x ≡ 256)) (sym w.leaders-is)
           (leaders_skip rows k old (sym w.in_default.ensures) c.loop-k.invariant.0, c.loop-k.invariant.1))
     ]

@@ -23,7 +23,7 @@ loop-k-preserved c =
           subst (Reduced v t.rows (k + 1) c.args.equation) (sym w.reduced-is)
           (row_passed v t.rows t.written t.led t.clear k c.args.equation c.loop-k.reduced (omega arith) (omega arith) c.loop-k.invariant
           w.in-Some.lead (sym w.in-Some.ensures) (sym w.if-has.ensures)))
-      | in-default w ↦ absurd (
+      | in_default w ↦ absurd (
           row_leads v t.rows t.written t.led t.clear k c.args.equation c.loop-k.reduced (omega arith) (omega arith) c.loop-k.invariant
           (sym w.in_default.ensures))
     ]

@@ -24,4 +24,13 @@ invariant_of-self c =
     let kept = keeps (variables t.channels t.frame) t.rows t.written c.args.count c.args.equation c.requires.written (omega arith) (omega arith)
     t.led t.apart t.clear c.requires.lead c.requires.clear in
     let room = kept.room in
-    (length-set t.rows c.args.count _ ∙ t.long, (omega arith, (t.short_warmup, (t.short_shifts, (t.few, (kept.led, (kept.apart, (kept.clear, tt))))))))
+    record {
+      long = length-set t.rows c.args.count _ ∙ t.long;
+      room = omega arith;
+      short_warmup = t.short_warmup;
+      short_shifts = t.short_shifts;
+      few = t.few;
+      led = kept.led;
+      apart = kept.apart;
+      clear = kept.clear;
+    }
