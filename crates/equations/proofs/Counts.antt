@@ -1,9 +1,8 @@
 -- How many lists pass a test, and which is the first.
-use Rattle.std.proofs.Common.{◌≡◌, ℕ, zero, suc, ◌+◌, ◌<◌, Bool, true, false, cond, not, ◌&&◌, List, [], ◌∷◌, ◌++◌, length, Some, None, Option, sym, refl, ap, ◌∙◌, subst, ap₂, arith}
-use Rattle.std.proofs.lemmas.Bool.{false≢true, true≢false}
+use Rattle.std.proofs.Common.{◌≡◌, ℕ, zero, suc, ◌+◌, ◌<◌, Bool, true, false, cond, not, ◌&&◌, List, [], ◌∷◌, ◌++◌, length, Some, None, Option, refl, ap, subst, ap₂, arith}
+use Rattle.std.proofs.lemmas.Bool.{false≢true}
 use Rattle.std.specs.Option.{option_map}
 use Rattle.bits.specs.Lists.{row_of}
-use Rattle.bits.specs.Rows.{Row}
 use Rattle.bits.specs.Words.{one_if}
 use Rattle.equations.specs.Counting.{Test, both, number, or_else, first, before, FirstOf, FirstInDictionaryOrder}
 

@@ -1,12 +1,12 @@
 -- An equation reduced row by row, and what it then says of the solutions.
-use Rattle.std.proofs.Common.{◌≡◌, ℕ, zero, suc, ◌+◌, ◌-◌, ◌^◌, ◌<◌, ◌≤◌, Bool, true, false, ◌&&◌, List, [], ◌∷◌, ◌++◌, length, take, set, Some, None, Option, sym, refl, ap, ◌∙◌, subst, ap₂, inl, inr, arith}
+use Rattle.std.proofs.Common.{◌≡◌, ℕ, ◌+◌, ◌-◌, ◌^◌, ◌<◌, ◌≤◌, Bool, true, false, ◌&&◌, List, [], ◌∷◌, ◌++◌, length, take, set, Some, None, Option, sym, refl, ap, ◌∙◌, ap₂, inl, inr, arith}
 use mathlib.Core.Bool.{beq, and-true, and-false}
 use Rattle.std.proofs.lemmas.List.{take_more, take_more_set, length-set}
 use Rattle.std.proofs.lemmas.Bool.{both_ways, cases_eq, cases_lt, and_parts, lt-ltb}
 use Rattle.bits.specs.Lists.{row_of}
 use Rattle.bits.specs.Rows.{Row, xor, plus, sum_of}
 use Rattle.bits.proofs.Arrays.{set_before, set_here, all_more}
-use Rattle.bits.proofs.Sums.{xor_assoc, xor_self, xor_false, and_xor, sum_plus, ext}
+use Rattle.bits.proofs.Sums.{sum_plus, ext}
 use Rattle.equations.specs.declared.Equation.{Equation}
 use Rattle.equations.specs.Counting.{Test, both, number}
 use Rattle.equations.specs.Equations.{coefficients_of, dot, holds, solves, solutions, lead_of}

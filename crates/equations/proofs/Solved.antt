@@ -1,16 +1,16 @@
 -- Equations whose leads differ: how many rows solve them, and which is the first.
-use Rattle.std.proofs.Common.{◌≡◌, ℕ, zero, suc, ◌-◌, ◌^◌, ◌<◌, ◌≤◌, Bool, true, false, cond, ◌&&◌, List, [], ◌∷◌, length, take, is_some, Some, None, Option, sym, refl, ap, ◌∙◌, ap₂, arith}
+use Rattle.std.proofs.Common.{◌≡◌, ℕ, zero, suc, ◌-◌, ◌^◌, ◌<◌, ◌≤◌, Bool, true, false, cond, ◌&&◌, List, [], ◌∷◌, length, take, is_some, Some, None, Option, sym, refl, ap, ◌∙◌, arith}
 use mathlib.Core.Bool.{beq}
 use Rattle.std.proofs.lemmas.List.{length-take-le, get_or-take}
 use Rattle.std.proofs.lemmas.Bool.{cond-true, cond-false}
 use Rattle.bits.specs.Lists.{row_of, list_of}
 use Rattle.bits.specs.Rows.{Row}
 use Rattle.equations.specs.declared.Equation.{Equation}
-use Rattle.equations.specs.Counting.{Test, number, first}
+use Rattle.equations.specs.Counting.{number, first}
 use Rattle.equations.specs.Equations.{holds, solves, solutions, lead_of}
 use Rattle.equations.specs.Systems.{row_at, is_below, Led, Apart}
 use Rattle.equations.proofs.Counts.{number_same, first_same}
-use Rattle.equations.proofs.Leads.{is_at, below_is, is_at_lem, at_is, not_at, leader_of, leader_none, leader_from, leader_not, said_of, said_by, said_same, holds_lead}
+use Rattle.equations.proofs.Leads.{below_is, at_is, not_at, leader_of, leader_none, leader_from, leader_not, said_of, said_by, said_same, holds_lead}
 use Rattle.equations.proofs.Triangles.{free, marked, free_marked, marked_room, marked_more, every_more, obeys, fits, number_fits, first_fits}
 
 -- each equation has a lead below v, which none after it has

@@ -1,12 +1,12 @@
 -- Systems in which each variable is free or told by those before it: how many rows fit, and which is the first.
-use Rattle.std.proofs.Common.{◌≡◌, ℕ, zero, suc, ◌+◌, ◌*◌, ◌^◌, ◌<◌, ◌≤◌, Bool, true, false, cond, not, ◌&&◌, ◌⊎◌, List, [], ◌∷◌, ◌++◌, length, Some, sym, refl, ap, ◌∙◌, ap₂, inl, inr, pow-suc, arith}
+use Rattle.std.proofs.Common.{◌≡◌, ℕ, zero, suc, ◌+◌, ◌^◌, ◌<◌, ◌≤◌, Bool, true, false, cond, not, ◌&&◌, List, [], ◌∷◌, ◌++◌, length, Some, sym, refl, ap, ◌∙◌, ap₂, inl, inr, pow-suc, arith}
 use mathlib.Core.Bool.{beq, and-true, and-false}
 use Rattle.std.proofs.lemmas.List.{get_or_append_left, get_or_at}
-use Rattle.std.proofs.lemmas.Bool.{false≢true, cases_eq, cases_lt, and_left}
+use Rattle.std.proofs.lemmas.Bool.{false≢true, cases_eq, and_left}
 use Rattle.bits.specs.Lists.{row_of, list_of}
 use Rattle.bits.specs.Rows.{Row, xor}
 use Rattle.bits.proofs.Lists.{length_list_of, row_of_list_of}
-use Rattle.equations.specs.Counting.{Test, both, number, first, before}
+use Rattle.equations.specs.Counting.{number, first, before}
 use Rattle.equations.proofs.Counts.{number_same, number_split, number_last, first_is}
 
 -- of the first n variables, how many are free and how many are told

@@ -1,5 +1,5 @@
 -- Equations over bits: coefficients, the right side, and what solves them.
-use Rattle.std.specs.Prelude.{ℕ, zero, suc, ◌/◌, ◌%◌, Bool, true, false, cond, ◌&&◌, List, [], ◌∷◌, Some, None, Option, ◌==◌, slice_index}
+use Rattle.std.specs.Prelude.{ℕ, zero, suc, ◌/◌, ◌%◌, Bool, true, cond, ◌&&◌, List, [], ◌∷◌, Some, None, Option, ◌==◌, slice_index}
 use Rattle.std.specs.Bool.{beq}
 use Rattle.bits.specs.Lists.{row_of}
 use Rattle.bits.specs.Rows.{Row, sum_of}

@@ -1,5 +1,5 @@
 -- Calls one after another: every answer is true of the bits then standing.
-use Rattle.std.proofs.Common.{◌≡◌, ℕ, zero, suc, ◌+◌, ◌<◌, ◌≤◌, ◌⊎◌, List, [], ◌∷◌, ◌++◌, length, take, set, Ok, Err, Result, sym, refl, ap, ◌∙◌, subst, inl, inr, arith}
+use Rattle.std.proofs.Common.{◌≡◌, ℕ, ◌≤◌, ◌⊎◌, List, [], ◌∷◌, ◌++◌, Result, sym, refl, ap, ◌∙◌, subst, inl, inr, arith}
 use Rattle.std.proofs.lemmas.List.{take-set-le}
 use Rattle.equations.specs.declared.Equation.{Equation}
 use Rattle.equations.specs.Equations.{solutions}
@@ -7,8 +7,8 @@ use Rattle.machine.specs.Linear.{Linear}
 use Rattle.refusals.specs.declared.Refusal.{Refusal}
 use Rattle.scan.specs.declared.care.CareBit.{CareBit}
 use Rattle.scan.specs.declared.frame.Frame.{Frame}
-use Rattle.session.specs.Dialogues.{Event, opens, proposes, keeps, lets_go, reads_free, reads_pattern, Standing, none, with_bit, step, steps, True, AllTrue, Held, counted, Call, Chain, begun, EveryListIsAnsweredTruly}
-use Rattle.session.specs.Sessions.{Session, size, in_force, fall, with_row, Proposed, Stands}
+use Rattle.session.specs.Dialogues.{Event, opens, proposes, keeps, lets_go, reads_free, reads_pattern, Standing, none, step, steps, True, AllTrue, Held, counted, Call, Chain, begun, EveryListIsAnsweredTruly}
+use Rattle.session.specs.Sessions.{Session, fall, with_row, Proposed, Stands}
 use Rattle.session.proofs.Truths.{propose_true, free_true, pattern_true, answered_small}
 
 -- table and counter stand for the bits that stand, and with the count that the last trial found they would stand for those noted

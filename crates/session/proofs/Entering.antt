@@ -1,19 +1,19 @@
 -- An equation put beside those in force: what it is answered, and what then holds.
-use Rattle.std.proofs.Common.{◌≡◌, ℕ, suc, ◌+◌, ◌-◌, ◌^◌, ◌<◌, ◌≤◌, Bool, true, false, cond, eqb, ltb, List, length, take, set, is_some, is_ok, Some, None, Ok, Err, Option, sym, refl, ap, ◌∙◌, subst, ap₂, add-zero, arith, pow_pos}
+use Rattle.std.proofs.Common.{◌≡◌, ℕ, ◌+◌, ◌-◌, ◌^◌, ◌<◌, ◌≤◌, Bool, true, false, cond, List, length, take, set, is_some, Some, None, Ok, Err, Option, sym, refl, ap, ◌∙◌, subst, add-zero, arith, pow_pos}
 use Rattle.std.proofs.lemmas.Nat.{pow_below}
 use Rattle.std.proofs.lemmas.Bool.{false≢true, true≢false, eq-eqb, ne_eqb, lt-ltb, le-ltb, cond-true, cond-false}
 use Rattle.bits.specs.Lists.{row_of}
 use Rattle.equations.specs.declared.Equation.{Equation}
-use Rattle.equations.specs.Counting.{Test, both, number}
+use Rattle.equations.specs.Counting.{Test, number}
 use Rattle.equations.specs.Equations.{holds, solutions, lead_of}
-use Rattle.equations.specs.Systems.{is_below, Led, Apart, Clear, Within, Reduced}
+use Rattle.equations.specs.Systems.{Led, Apart, Clear, Within, Reduced}
 use Rattle.equations.proofs.Counts.{number_same}
-use Rattle.equations.proofs.Reductions.{implied, contradicts, lead_low, number_more, room_more, solutions_more}
+use Rattle.equations.proofs.Reductions.{implied, contradicts, number_more, room_more, solutions_more}
 use Rattle.equations.proofs.Solved.{system_number}
 use Rattle.refusals.specs.declared.Refusal.TheVariants.{Conflict}
 use Rattle.scan.specs.Frames.{variables}
 use Rattle.session.specs.declared.table.EquationTable.{EquationTable}
-use Rattle.session.specs.Sessions.{Session, size, in_force, judging, fall, with_row, After}
+use Rattle.session.specs.Sessions.{judging, with_row, After}
 use Rattle.session.specs.Standing.{weighed}
 use Rattle.session.specs.Views.{session_at}
 

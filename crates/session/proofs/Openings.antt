@@ -1,5 +1,5 @@
 -- A session just opened, and what its free count says.
-use Rattle.std.proofs.Common.{◌≡◌, ℕ, ◌≤◌, Bool, true, false, ltb, [], is_ok, Ok, Err, Result, sym, refl, ap, ◌∙◌, arith}
+use Rattle.std.proofs.Common.{◌≡◌, ℕ, ◌≤◌, Bool, true, false, ltb, [], is_ok, Ok, Err, refl, ap, ◌∙◌, arith}
 use Rattle.equations.proofs.Solved.{system_number, system_few}
 use Rattle.machine.specs.Linear.{Linear}
 use Rattle.refusals.specs.declared.Refusal.{Refusal}

@@ -1,6 +1,5 @@
 -- The digits of an injection that loads bits can be replayed, and load them.
-use Rattle.std.proofs.Common.{◌≡◌, ℕ, zero, suc, ◌<◌, ◌≤◌, Bool, true, false, not, ◌&&◌, ltb, List, [], ◌∷◌, map, length, is_ok, Ok, Err, Result, sym, refl, ap, ◌∙◌, arith}
-use mathlib.Core.Bool.{beq}
+use Rattle.std.proofs.Common.{◌≡◌, ℕ, zero, suc, ◌≤◌, Bool, true, false, not, ltb, List, [], ◌∷◌, map, length, is_ok, Ok, refl, ap, ◌∙◌}
 use Rattle.std.proofs.lemmas.List.{length-map}
 use Rattle.std.proofs.lemmas.Bool.{false≢true, and_parts, eq-eqb, lt-ltb, cond-true, cond-false}
 use Rattle.bits.specs.Digits.{digit_of, all_digits, digit_row}
@@ -10,7 +9,6 @@ use Rattle.bits.proofs.Sums.{ext}
 use Rattle.machine.specs.Linear.{Linear}
 use Rattle.patterns.proofs.Replays.{Passed, replays}
 use Rattle.patterns.proofs.Runs.{holds_its_load}
-use Rattle.refusals.specs.declared.Refusal.{Refusal}
 use Rattle.refusals.specs.declared.Refusal.TheVariants.{OutOfRange, TooMany}
 use Rattle.refusals.specs.Chains.{refused_if}
 use Rattle.scan.specs.declared.care.CareBit.{CareBit}

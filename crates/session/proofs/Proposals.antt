@@ -1,17 +1,17 @@
 -- A proposal: which of its checks decides, and what its equation says.
-use Rattle.std.proofs.Common.{◌≡◌, ℕ, suc, ◌+◌, ◌<◌, ◌≤◌, Bool, true, false, cond, not, ◌&&◌, ◌||◌, eqb, ltb, List, length, is_ok, Ok, Err, Result, sym, refl, ap, ◌∙◌, subst, ap₂, arith}
+use Rattle.std.proofs.Common.{◌≡◌, ℕ, ◌≤◌, Bool, true, false, cond, not, ◌&&◌, ltb, List, length, is_ok, Ok, Err, Result, sym, refl, ap, ◌∙◌, subst, arith}
 use Rattle.std.proofs.lemmas.Bool.{false≢true, and_from, and_parts, or_from, ltb-true, eq-eqb, le-ltb, cond-true, cond-false}
 use Rattle.bits.specs.Lists.{row_of}
 use Rattle.bits.specs.Rows.{Row, zeros}
 use Rattle.equations.specs.declared.Equation.{Equation}
-use Rattle.equations.specs.Counting.{Test, both, number}
+use Rattle.equations.specs.Counting.{both, number}
 use Rattle.equations.specs.Equations.{holds}
 use Rattle.equations.specs.Systems.{Within}
 use Rattle.equations.proofs.Counts.{number_same}
 use Rattle.machine.specs.Linear.{Linear}
 use Rattle.refusals.specs.declared.Refusal.{Refusal}
-use Rattle.refusals.specs.declared.Refusal.TheVariants.{OutOfRange, TooMany}
-use Rattle.refusals.specs.Chains.{refused_if, answer_of}
+use Rattle.refusals.specs.declared.Refusal.TheVariants.{OutOfRange}
+use Rattle.refusals.specs.Chains.{refused_if}
 use Rattle.responses.specs.Ranges.{is_in_range, in_chains}
 use Rattle.responses.specs.Responses.{EquationOf}
 use Rattle.scan.specs.declared.care.CareBit.{CareBit}
@@ -19,7 +19,7 @@ use Rattle.scan.specs.declared.frame.Frame.{Frame}
 use Rattle.scan.specs.Frames.{span, variables, out_of_limits, in_limits, in_span}
 use Rattle.session.specs.declared.table.EquationTable.{EquationTable}
 use Rattle.session.specs.Dialogues.{ToldTruly}
-use Rattle.session.specs.Sessions.{Session, size, in_force, proposable, judging, proposing, cells_left, fall, After, Proposed}
+use Rattle.session.specs.Sessions.{Session, in_force, proposable, judging, cells_left, After, Proposed}
 use Rattle.session.specs.Standing.{loading, weighed}
 use Rattle.session.specs.Views.{session_at}
 use Rattle.session.proofs.Truths.{propose_true}

@@ -1,10 +1,9 @@
 -- What the single calls answer is true of the bits for which table and counter stand.
-use Rattle.std.proofs.Common.{◌≡◌, ℕ, zero, suc, ◌+◌, ◌-◌, ◌^◌, ◌<◌, ◌≤◌, Bool, true, false, cond, not, ◌&&◌, eqb, ltb, ◌⊎◌, List, [], ◌∷◌, ◌++◌, map, length, drop, is_ok, Some, Ok, Err, Option, Result, sym, refl, ap, ◌∙◌, subst, ap₂, inl, inr, arith, pow_pos}
+use Rattle.std.proofs.Common.{◌≡◌, ℕ, ◌-◌, ◌<◌, ◌≤◌, Bool, true, false, cond, not, ◌&&◌, eqb, ltb, ◌⊎◌, List, [], ◌∷◌, ◌++◌, map, length, drop, is_ok, Some, Ok, Err, Option, Result, sym, refl, ap, ◌∙◌, subst, ap₂, inl, inr, arith, pow_pos}
 use mathlib.Core.Bool.{and-true}
-use Rattle.std.proofs.lemmas.Bool.{false≢true, and_from, and_parts, not-false, ltb-true, eq-eqb, lt-ltb, le-ltb, cond-true, cond-false}
+use Rattle.std.proofs.lemmas.Bool.{and_from, and_parts, ltb-true, eq-eqb, lt-ltb, le-ltb, cond-true, cond-false}
 use Rattle.bits.specs.Digits.{digit_of}
-use Rattle.equations.specs.declared.Equation.{Equation}
-use Rattle.equations.specs.Counting.{Test, both, number, first, FirstOf}
+use Rattle.equations.specs.Counting.{both, number, first}
 use Rattle.equations.proofs.Counts.{number_same, first_same, first_some, first_in_order}
 use Rattle.machine.specs.Linear.{Linear}
 use Rattle.refusals.specs.declared.Refusal.{Refusal}
@@ -16,7 +15,7 @@ use Rattle.scan.specs.declared.frame.Frame.{Frame}
 use Rattle.scan.specs.Frames.{variables}
 use Rattle.scan.specs.Loads.{InRange}
 use Rattle.session.specs.Dialogues.{with_bit, FreeTrue, FirstRead, PatternTrue}
-use Rattle.session.specs.Sessions.{Session, size, in_force, is_like, judging, proposing, fall, with_row, After, Proposed, freeing, written_over, patterning, Halved, AllInRange, Stands}
+use Rattle.session.specs.Sessions.{Session, size, in_force, proposing, fall, with_row, Proposed, freeing, written_over, patterning, Halved, AllInRange, Stands}
 use Rattle.session.specs.Standing.{loading, loads_all, ways, first_injection, weighed, verdict}
 use Rattle.session.proofs.Patterns.{replays_all}
 

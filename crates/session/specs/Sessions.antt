@@ -1,5 +1,5 @@
 -- A session: a table of equations with a counter, and what its calls do.
-use Rattle.std.specs.Prelude.{◌≡◌, ℕ, ◌+◌, ◌-◌, ◌^◌, ◌≤◌, Bool, true, false, cond, not, ◌&&◌, List, [], ◌∷◌, ◌++◌, map, length, take, drop, is_ok, Some, None, Ok, Err, Option, Result, ◌==◌, nat_lt, slice_set}
+use Rattle.std.specs.Prelude.{◌≡◌, ℕ, ◌+◌, ◌-◌, ◌^◌, ◌≤◌, Bool, true, cond, not, ◌&&◌, List, [], ◌∷◌, ◌++◌, map, length, take, drop, is_ok, Some, None, Ok, Err, Option, Result, ◌==◌, nat_lt, slice_set}
 use Rattle.bits.specs.Digits.{digit_of}
 use Rattle.bits.specs.Rows.{Row, zeros}
 use Rattle.equations.specs.declared.Equation.{Equation}
@@ -9,7 +9,7 @@ use Rattle.machine.specs.Linear.{Linear}
 use Rattle.refusals.specs.declared.Refusal.{Refusal}
 use Rattle.refusals.specs.declared.Refusal.TheVariants.{OutOfRange, CounterAhead}
 use Rattle.refusals.specs.Chains.{refused_if}
-use Rattle.responses.specs.Ranges.{in_chains, is_in_range}
+use Rattle.responses.specs.Ranges.{in_chains}
 use Rattle.scan.specs.declared.care.CareBit.{CareBit}
 use Rattle.scan.specs.declared.frame.Frame.{Frame}
 use Rattle.scan.specs.Frames.{variables, in_limits, in_span}

@@ -1,7 +1,6 @@
 -- Bits that stand, and the injections that load them all.
-use Rattle.std.specs.Prelude.{◌≡◌, ℕ, Bool, true, cond, ◌&&◌, List, [], ◌∷◌, ◌++◌, Ok, Option, Result, ◌==◌, nat_lt}
+use Rattle.std.specs.Prelude.{ℕ, Bool, true, cond, ◌&&◌, List, [], ◌∷◌, ◌++◌, Ok, Option, Result, ◌==◌, nat_lt}
 use Rattle.bits.specs.Lists.{row_of}
-use Rattle.bits.specs.Rows.{Row}
 use Rattle.equations.specs.Counting.{Test, number, first}
 use Rattle.machine.specs.Linear.{Linear}
 use Rattle.refusals.specs.declared.Refusal.{Refusal}

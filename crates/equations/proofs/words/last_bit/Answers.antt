@@ -1,4 +1,4 @@
-use Rattle.std.proofs.Common.{◌≡◌, ℕ, ◌+◌, ◌-◌, ◌*◌, ◌≤◌, ap, ◌∙◌, arith}
+use Rattle.std.proofs.Common.{ℕ, ◌-◌, arith}
 use Rattle.equations.proofs.FourWords.{words_past, words_highest, words_lower, words_none}
 use Rattle.equations.proofs.words.last_bit.Goals as goal
 

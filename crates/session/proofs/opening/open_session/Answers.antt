@@ -5,7 +5,6 @@ use Rattle.bits.specs.Rows.{zeros}
 use Rattle.machine.specs.Linear.{Linear}
 use Rattle.refusals.specs.declared.Refusal.{Refusal}
 use Rattle.refusals.specs.Chains.{answer_of, left_by}
-use Rattle.session.specs.Dialogues.{EveryListIsAnsweredTruly}
 use Rattle.session.specs.Sessions.{Session, Stands}
 use Rattle.session.specs.Views.{session_of}
 use Rattle.session.proofs.Chains.{every_list}

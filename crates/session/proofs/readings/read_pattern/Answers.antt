@@ -1,12 +1,8 @@
-use Rattle.std.proofs.Common.{◌≡◌, ℕ, ◌<◌, ◌≤◌, List, ◌++◌, map, length, drop, Ok, Err, Option, sym, refl, ap, ◌∙◌, subst, ap₂, arith}
-use Rattle.std.proofs.lemmas.Bool.{le-ltb, lt-ltb, cond-true, cond-false}
-use Rattle.bits.specs.Digits.{digit_of, digits_of}
-use Rattle.bits.specs.Lists.{list_of}
-use Rattle.bits.proofs.Lists.{length_list_of}
+use Rattle.std.proofs.Common.{ℕ, ◌<◌, ◌≤◌, ◌++◌, length, drop, Ok, Err, sym, ap, ◌∙◌, subst}
+use Rattle.bits.specs.Digits.{digits_of}
 use Rattle.equations.specs.Equations.{words_row}
 use Rattle.refusals.specs.declared.Refusal.TheVariants.{MemoryTooShort}
 use Rattle.refusals.specs.Chains.{answer_of, left_by}
-use Rattle.session.specs.Sessions.{size, in_force, patterning, written_over}
 use Rattle.session.specs.Views.{session_of}
 use Rattle.session.proofs.Openings.{halved}
 use Rattle.session.proofs.Readout.{pattern_short, pattern_read}

@@ -1,5 +1,4 @@
 use Rattle.equations.specs.Equations.{words_row}
-use Rattle.session.specs.Leaders.{Leaders}
 use Rattle.session.proofs.Solving.{Solving}
 use Rattle.session.proofs.table.EquationTable.first_solution.Given as goal
 

@@ -1,5 +1,4 @@
-use Rattle.std.proofs.Common.{◌≡◌, ℕ, ◌+◌, sym, ap, ◌∙◌, subst, arith}
-use Rattle.equations.specs.declared.Equation.{Equation}
+use Rattle.std.proofs.Common.{◌≡◌, ℕ, ◌+◌, sym, subst, arith}
 use Rattle.equations.specs.Systems.{Reduced}
 use Rattle.equations.proofs.Reductions.{reduced_none, row_added, row_passed, row_leads}
 use Rattle.scan.specs.Frames.{variables}
