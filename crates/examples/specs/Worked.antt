@@ -81,22 +81,22 @@ unloaded (suc n) u values unknowns =
 -- the list: each example has a name
 pub record WorkedExamples : Type 0 where
   -- the Galois register of 3 cells with a tap at cell 1, from 100
-  pub galois-of-three :
+  pub galois_of_three :
       ok_map (λ m. silent m 4 (row_of (bits "100"))) (galois_from 3 (1 ∷ []) (0 ∷ [])) ≡ Ok (bits "010" ∷ bits "001" ∷ bits "110" ∷ bits "011" ∷ [])
   -- the four-cell ring, from reset with the injection 1000: a bit that is injected comes round and is added by the link
-  pub ring-of-four :
+  pub four_cell_ring :
       ok_map (λ m. showing m zeros (bits "1000")) ring_of_four ≡ Ok (bits "1000" ∷ bits "0101" ∷ bits "1010" ∷ bits "0100" ∷ [])
   -- the same under a phase shifter of two outlets: outlet 0 below, and the sum of outlets 1 and 2 below
-  pub ring-under-shifter :
+  pub ring_under_shifter :
       ok_map (λ m. showing (shifter m (0b001 ∷ 0b110 ∷ [])) zeros (bits "1000")) ring_of_four ≡ Ok (bits "10" ∷ bits "01" ∷ bits "11" ∷ bits "01" ∷ [])
   -- an outlet that is missing below counts as 0
-  pub shifter-past-the-outlets :
+  pub shifter_past_the_outlets :
       ok_map (λ m. showing (shifter m (0b10010 ∷ [])) zeros (bits "1000")) ring_of_four ≡ Ok (bits "0" ∷ bits "1" ∷ bits "0" ∷ bits "1" ∷ [])
   -- the same under a delay: each outlet one cycle later
-  pub ring-under-delay :
+  pub ring_under_delay :
       ok_map (λ m. showing (delayed m) zeros (bits "1000")) ring_of_four ≡ Ok (bits "0000" ∷ bits "1000" ∷ bits "0101" ∷ bits "1010" ∷ [])
   -- two channels into one cell cancel out
-  pub two-into-one-cell :
+  pub two_into_one_cell :
       ok_map (λ m. list_of 3 (m.next zeros (row_of (bits "110")))) (galois_from 3 [] (1 ∷ 1 ∷ 2 ∷ [])) ≡ Ok (bits "000")
   -- registers of 1, 2, 64 and 65 cells
   pub sizes : map (λ n. refused_with (galois_from n [] (0 ∷ []))) (1 ∷ 2 ∷ 64 ∷ 65 ∷ []) ≡ (7 ∷ 0 ∷ 0 ∷ 7 ∷ [])
@@ -120,20 +120,20 @@ pub record WorkedExamples : Type 0 where
   -- the four-cell ring, two warm-up cycles and two shift cycles: what 0011 loads into chains 0 to 3
   pub load_of_four : ok_map (λ m. loaded m (frame 2 2) (bits "0011")) ring_of_four ≡ Ok (bits "11" ∷ bits "10" ∷ bits "00" ∷ bits "10" ∷ [])
   -- the same under the phase shifter of two outlets
-  pub load-under-shifter :
+  pub load_under_shifter :
       ok_map (λ m. loaded (shifter m (0b001 ∷ 0b110 ∷ [])) (frame 2 2) (bits "0011")) ring_of_four ≡ Ok (bits "11" ∷ bits "10" ∷ [])
-  pub load-under-shifter-of-another :
+  pub load_under_shifter_of_another :
       ok_map (λ m. loaded (shifter m (0b001 ∷ 0b110 ∷ [])) (frame 2 2) (bits "0100")) ring_of_four ≡ Ok (bits "10" ∷ bits "11" ∷ [])
   -- the same under a delay
   pub load_under_delay : ok_map (λ m. loaded (delayed m) (frame 2 2) (bits "0011")) ring_of_four ≡ Ok (bits "10" ∷ bits "00" ∷ bits "00" ∷ bits "00" ∷ [])
-  pub load-under-delay-of-another :
+  pub load_under_delay_of_another :
       ok_map (λ m. loaded (delayed m) (frame 2 2) (bits "0100")) ring_of_four ≡ Ok (bits "01" ∷ bits "10" ∷ bits "00" ∷ bits "10" ∷ [])
   -- without warm-up every cycle fills a position
   pub load_without_warm_up : ok_map (λ m. loaded m (frame 0 4) (bits "0011")) ring_of_four ≡ Ok (bits "1100" ∷ bits "1000" ∷ bits "0000" ∷ bits "1000" ∷ [])
   -- two channels, which feed cells 0 and 2: in cycle 1 they take bits 0 and 1, in cycle 2 bits 2 and 3
   pub two_channels : ok_map (λ m. loaded m (frame 0 2) (bits "1101")) (galois_from 3 [] (0 ∷ 2 ∷ [])) ≡ Ok (bits "11" ∷ bits "10" ∷ bits "11" ∷ [])
   -- 0011 loads a 1 into position 1 of chain 0, and no 1 into position 1 of chain 1
-  pub loads-a-bit :
+  pub loads_a_bit :
       ok_map (λ m. map (loads m (frame 2 2) (row_of (bits "0011"))) (care 0 1 true ∷ care 1 1 true ∷ care 1 1 false ∷ [])) ring_of_four
       ≡ Ok (true ∷ false ∷ true ∷ [])
   -- dictionary order: 0011 before 0100, not the other way, and not before itself

@@ -5,7 +5,6 @@ ghost use Rattle.layers.specs.Delayed.{joined, delayed};
 ghost use Rattle.layers.specs.Views.{delay_parts};
 ghost use Rattle.layers.specs.Delays.{superposes};
 ghost use Rattle.layers.specs.Delays;
-ghost use Rattle.std.proofs.Common.{rules};
 
 use bits::low;
 use machine::Machine;
@@ -40,7 +39,9 @@ impl<M: Machine> Machine for Delay<M> {
 
     ghost superposition = { λ d. superposes (M.Machine.meaning d.below) (M.Machine.superposition d.below) };
 
-    ghost counted = { Prim.search rules };
+    ghost counted = { λ d.
+        let c = M.Machine.counted d.below in
+        record { channels_some = c.channels_some; channels_few = c.channels_few; outlets_some = c.outlets_some; outlets_few = c.outlets_few } };
 
     ghost held = { λ d. let m = M.Machine.meaning d.below in Delays.held m.size m.outlets (M.Machine.cells d.below) (bit_of d.kept) };
 

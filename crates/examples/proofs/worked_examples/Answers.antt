@@ -3,12 +3,12 @@ use Rattle.examples.proofs.worked_examples.Goals as goal
 
 pub returns : goal.returns
 returns c = record {
-  galois-of-three = refl;
-  ring-of-four = refl;
-  ring-under-shifter = refl;
-  shifter-past-the-outlets = refl;
-  ring-under-delay = refl;
-  two-into-one-cell = refl;
+  galois_of_three = refl;
+  four_cell_ring = refl;
+  ring_under_shifter = refl;
+  shifter_past_the_outlets = refl;
+  ring_under_delay = refl;
+  two_into_one_cell = refl;
   sizes = refl;
   taps = refl;
   links = refl;
@@ -20,13 +20,13 @@ returns c = record {
   outlets = refl;
   empty_set = refl;
   load_of_four = refl;
-  load-under-shifter = refl;
-  load-under-shifter-of-another = refl;
+  load_under_shifter = refl;
+  load_under_shifter_of_another = refl;
   load_under_delay = refl;
-  load-under-delay-of-another = refl;
+  load_under_delay_of_another = refl;
   load_without_warm_up = refl;
   two_channels = refl;
-  loads-a-bit = refl;
+  loads_a_bit = refl;
   dictionary = refl;
   warm_ups = refl;
   shift_cycles = refl;

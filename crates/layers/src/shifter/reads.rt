@@ -2,7 +2,6 @@ ghost use Rattle.layers.specs.Shifter.{shifter};
 ghost use Rattle.layers.specs.Views.{sets_read};
 ghost use Rattle.layers.specs.Mixes.{superposes};
 ghost use Rattle.layers.specs.Mixes;
-ghost use Rattle.std.proofs.Common.{rules, arith};
 
 use crate::shifter::PhaseShifter;
 use machine::Machine;
@@ -18,7 +17,7 @@ impl<M: Machine> Machine for PhaseShifter<M> {
         let t = m.sets in
         Mixes.counted (M.Machine.meaning m.below) t.outlets t.words t.whole m.some t.room (M.Machine.counted m.below) };
 
-    ghost held = { first_of (Prim.search rules, Prim.grind (arith, Self.row.coded.inj)) };
+    ghost held = { λ p. M.Machine.held p.below };
 
     fn channels(&self) -> usize {
         self.below.channels()
