@@ -8,6 +8,7 @@ impl EquationTable {
     // A table that was never opened: nothing is written, and there are no channels, outlets or variables.
     pub fn new() -> EquationTable
         ensures written { result.written ≡ 0 }
+        ensures frame { result.frame ≡ record { warmup = 0; shifts = 0 } }
         ensures channels { result.channels ≡ 0 }
         ensures outlets { result.outlets ≡ 0 }
     {
