@@ -1,7 +1,8 @@
-// Word operations by what they do to rows of bits.
+// Word operations by what they do to rows of bits, and bits as digits.
 #![tactic(auto)]
 
 ghost use Rattle.std.specs.Prelude.{◌≡◌};
+ghost use Rattle.bits.specs.Digits.{digit_of};
 ghost use Rattle.bits.specs.Rows.{sum_of};
 ghost use Rattle.bits.specs.Words.{bit_of, word_of};
 
@@ -28,4 +29,11 @@ pub fn has(word: u64, place: usize) -> bool
     ensures { result ≡ bit_of word place }
 {
     place < 64 && word >> place & 1 == 1
+}
+
+// A bit as a digit, the character 0 or 1.
+pub fn digit(bit: bool) -> u8
+    ensures { result ≡ digit_of bit }
+{
+    if bit { b'1' } else { b'0' }
 }

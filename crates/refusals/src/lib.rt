@@ -5,29 +5,31 @@ ghost use Rattle.std.specs.Prelude.{◌≡◌};
 ghost use Rattle.refusals.specs.Numbers.{number_of};
 
 mod gather;
+mod handed_back;
 
 pub use gather::{Gathers, gathered};
+pub use handed_back::HandedBack;
 use std::error::Error;
 use std::fmt;
 
-// The reasons, in the order of their numbers, which begin at 1. Other crates match single reasons only, so that one more can be added.
+// The reasons with their numbers. Other crates match single reasons only, so that one more can be added.
 #[derive(Clone, Copy, PartialEq, Eq, Debug)]
 pub enum Refusal {
-    LineTooLong,
-    StrayByte,
-    NoRecordWord,
-    FieldCount,
-    MalformedField,
-    OutOfPlace,
-    OutOfRange,
-    Repeated,
-    TooMany,
-    EmptyCube,
-    Conflict,
-    CounterAhead,
-    MemoryTooShort,
-    NoCycleLeft,
-    CyclesLeft,
+    LineTooLong = 1,
+    StrayByte = 2,
+    NoRecordWord = 3,
+    FieldCount = 4,
+    MalformedField = 5,
+    OutOfPlace = 6,
+    OutOfRange = 7,
+    Repeated = 8,
+    TooMany = 9,
+    EmptyCube = 10,
+    Conflict = 11,
+    CounterAhead = 12,
+    MemoryTooShort = 13,
+    NoCycleLeft = 14,
+    CyclesLeft = 15,
 }
 
 impl Refusal {
@@ -35,23 +37,7 @@ impl Refusal {
     pub fn number(self) -> u8
         ensures { result ≡ number_of self }
     {
-        match self {
-            Refusal::LineTooLong => 1,
-            Refusal::StrayByte => 2,
-            Refusal::NoRecordWord => 3,
-            Refusal::FieldCount => 4,
-            Refusal::MalformedField => 5,
-            Refusal::OutOfPlace => 6,
-            Refusal::OutOfRange => 7,
-            Refusal::Repeated => 8,
-            Refusal::TooMany => 9,
-            Refusal::EmptyCube => 10,
-            Refusal::Conflict => 11,
-            Refusal::CounterAhead => 12,
-            Refusal::MemoryTooShort => 13,
-            Refusal::NoCycleLeft => 14,
-            Refusal::CyclesLeft => 15,
-        }
+        self as u8
     }
 
     // What the refusal says in words.
