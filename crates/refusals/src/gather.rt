@@ -22,10 +22,9 @@ pub trait Gathers {
 }
 
 // A part with the lines of a list, or the first refusal.
-pub fn gathered<G: Gathers + Drop>(part: G, lines: &[G::Line]) -> Result<G, Refusal>
+pub fn gathered<G: Gathers + Drop>(mut part: G, lines: &[G::Line]) -> Result<G, Refusal>
     ensures { ok_map G.Gathers.read result ≡ reading G.Gathers.takes (G.Gathers.read part) lines.now }
 {
-    let mut part = part;
     for line in lines {
         part.add(*line)?;
     }

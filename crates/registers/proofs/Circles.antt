@@ -1,51 +1,49 @@
 -- The words that a shift goes by hold what its definition says.
-use Rattle.std.proofs.Common.{◌≡◌, ℕ, zero, suc, ◌+◌, ◌-◌, ◌*◌, ◌/◌, ◌%◌, ◌^◌, ◌<◌, ◌≤◌, Bool, true, ◌&&◌, ◌||◌, eqb, List, [], ◌∷◌, ◌++◌, sym, ap, ◌∙◌, subst, ap₂, lt_of_lt_of_le, arith, pow_mono, shl_lt, shr_lt}
+use Rattle.std.proofs.Common.{◌≡◌, ℕ, zero, suc, ◌+◌, ◌-◌, ◌*◌, ◌/◌, ◌%◌, ◌^◌, ◌<◌, ◌≤◌, Bool, true, false, ◌&&◌, ◌||◌, eqb, List, [], ◌∷◌, ◌++◌, sym, refl, ap, ◌∙◌, subst, ap₂, lt_of_lt_of_le, arith, pow_mono, shl_lt}
 use mathlib.Core.Bool.{and-true, or-false}
 use lib.Bits.{bit_and, bit_or, bit_xor, or_lt, xor_lt}
+use mir.Val.{bool_byte}
 use Rattle.std.proofs.lemmas.Nat.{shl_whole}
 use Rattle.bits.specs.Rows.{Row, xor}
 use Rattle.bits.specs.Words.{bit_of, word_of}
 use Rattle.bits.proofs.Sums.{xor_false, xor_assoc}
-use Rattle.bits.proofs.Bitwise.{bit_first, bit_above, bit_of_or, bit_of_xor, bit_double, bit_double_first, word_is, word_at, word_fits, bit_carried, carried_fits}
+use Rattle.bits.proofs.Bitwise.{bit_above, bit_of_or, bit_of_xor, bit_double, bit_double_first, word_is, word_at, word_fits, bit_carried, carried_fits}
 use Rattle.registers.specs.declared.Link.{Link}
 use Rattle.registers.specs.Registers.{before, galois_turn, ring_turn, linked_into}
 
-module _ (cells n : ℕ) (some : 2 ≤ n) (few : n ≤ 64) (held : cells < 2 ^ n) where
-  -- the cells but the last, moved up
-  moved : ℕ
-  moved = (word_of (n - 1) (bit_of cells) * 2) % 2 ^ 64
+byte_first : (b : Bool) → bit_of (bool_byte b) zero ≡ b
+byte_first true = refl
+byte_first false = refl
 
-  moved_is : moved ≡ word_of (n - 1) (bit_of cells) * 2
-  unfolding moved
-  moved_is = shl_whole (word_of (n - 1) (bit_of cells)) (n - 1) 1 64 (word_fits (n - 1) (bit_of cells)) (omega arith)
+byte_small : (b : Bool) → bool_byte b < 2 ^ 1
+byte_small true = omega arith
+byte_small false = omega arith
 
-  moved_fits : moved < 2 ^ n
+-- the cells but the last moved up, and the last as the first
+module _ (n lo : ℕ) (s : Row) (some : 2 ≤ n) (few : n ≤ 64) (low : lo ≡ word_of (n - 1) s) where
+  moved_is : (lo * 2) % 2 ^ 64 ≡ word_of (n - 1) s * 2
+  moved_is =
+      ap (λ (x : ℕ). (x * 2) % 2 ^ 64) low ∙ shl_whole (word_of (n - 1) s) (n - 1) 1 64 (word_fits (n - 1) s) (omega arith)
+
+  moved_fits : (lo * 2) % 2 ^ 64 < 2 ^ n
   moved_fits =
       let e : n - 1 + 1 ≡ n = omega arith in
-      subst (λ (x : ℕ). x < 2 ^ n) (sym moved_is)
-      (subst (λ (k : ℕ). word_of (n - 1) (bit_of cells) * 2 < 2 ^ k) e (shl_lt (n - 1) 1 (word_fits (n - 1) (bit_of cells))))
+      subst (λ (x : ℕ). x < 2 ^ n) (sym moved_is) (subst (λ (k : ℕ). word_of (n - 1) s * 2 < 2 ^ k) e (shl_lt (n - 1) 1 (word_fits (n - 1) s)))
 
-  -- the last cell, as a word
-  last_small : cells / 2 ^ (n - 1) < 2 ^ 1
-  last_small = let e : n ≡ 1 + (n - 1) = omega arith in shr_lt 1 (n - 1) (subst (λ (k : ℕ). cells < 2 ^ k) e held)
-
-  circled_at : (i : ℕ) → i < n → bit_of (bit_or moved (cells / 2 ^ (n - 1))) i ≡ bit_of cells (before n i)
+  circled_at : (i : ℕ) → i < n → bit_of (bit_or ((lo * 2) % 2 ^ 64) (bool_byte (s (n - 1)))) i ≡ s (before n i)
   circled_at zero h =
-      bit_of_or moved (cells / 2 ^ (n - 1)) zero
-      ∙ ap₂ ◌||◌ (ap (λ (x : ℕ). bit_of x zero) moved_is ∙ bit_double_first _) (bit_first (cells / 2 ^ (n - 1)))
+      bit_of_or _ (bool_byte (s (n - 1))) zero
+      ∙ ap₂ ◌||◌ (ap (λ (x : ℕ). bit_of x zero) moved_is ∙ bit_double_first _) (byte_first (s (n - 1)))
   circled_at (suc i) h =
-      bit_of_or moved (cells / 2 ^ (n - 1)) (suc i)
-      ∙ ap₂ ◌||◌ (ap (λ (x : ℕ). bit_of x (suc i)) moved_is ∙ bit_double _ i ∙ word_at (n - 1) (bit_of cells) i (omega arith))
-      (bit_above (cells / 2 ^ (n - 1)) 1 (suc i) last_small (omega arith))
-      ∙ or-false (bit_of cells i)
+      bit_of_or _ (bool_byte (s (n - 1))) (suc i)
+      ∙ ap₂ ◌||◌ (ap (λ (x : ℕ). bit_of x (suc i)) moved_is ∙ bit_double _ i ∙ word_at (n - 1) s i (omega arith))
+      (bit_above (bool_byte (s (n - 1))) 1 (suc i) (byte_small (s (n - 1))) (omega arith))
+      ∙ or-false (s i)
 
-  pub circled_is : (lo : ℕ) → lo ≡ word_of (n - 1) (bit_of cells)
-      → bit_or ((lo * 2) % 2 ^ 64) (cells / 2 ^ (n - 1)) ≡ word_of n (λ i. bit_of cells (before n i))
-  unfolding moved
-  circled_is lo e =
+  pub circled_is : bit_or ((lo * 2) % 2 ^ 64) (bool_byte (s (n - 1))) ≡ word_of n (λ i. s (before n i))
+  circled_is =
       let one : 1 ≤ n = omega arith in
-      ap (λ (x : ℕ). bit_or ((x * 2) % 2 ^ 64) (cells / 2 ^ (n - 1))) e
-      ∙ word_is n _ (λ i. bit_of cells (before n i)) (or_lt n _ _ moved_fits (lt_of_lt_of_le last_small (pow_mono one))) circled_at
+      word_is n _ (λ i. s (before n i)) (or_lt n _ _ moved_fits (lt_of_lt_of_le (byte_small (s (n - 1))) (pow_mono one))) circled_at
 
 -- the last cell is 1, so it is added to the tapped cells
 pub tapped_is : (n moved taps : ℕ) (s : Row) → taps < 2 ^ n → moved ≡ word_of n (λ i. s (before n i)) → true ≡ s (n - 1)

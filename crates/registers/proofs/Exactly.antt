@@ -9,10 +9,9 @@ use Rattle.refusals.specs.declared.Refusal.{Refusal}
 use Rattle.refusals.specs.declared.Refusal.TheVariants.{OutOfRange, Repeated, TooMany}
 use Rattle.refusals.proofs.Lines.{then_ok}
 use Rattle.refusals.specs.Chains.{and_then, refused_if, reading}
-use Rattle.machine.specs.Linear.{Linear}
 use Rattle.registers.specs.declared.Link.{Link}
 use Rattle.registers.specs.Rules.{sized, TapsRead, with_tap, tap_line, tap_lines, LinksRead, with_link, link_line, link_lines, InletsRead, with_inlet, inlet_line, inlet_lines, Lawful, no_link, next_cell, same_link, is_linked}
-use Rattle.registers.specs.Registers.{galois, ring, wired, wired_galois, wired_ring, galois_from, ring_from}
+use Rattle.registers.specs.Registers.{register, galois, galois_turn, ring, ring_turn, wired, wired_galois, wired_ring, galois_from, ring_from}
 use Rattle.registers.specs.Allowed.{among, SizeAllowed, TapsAllowed, LinksAllowed, InletsAllowed, GaloisAllowed, RingAllowed, GaloisExactly, RingExactly}
 use Rattle.registers.proofs.Rules.{tap_new, inlet_new, link_new, linked_push, link_self}
 
@@ -221,25 +220,25 @@ module _ {S X : Type 0} (line : S → X → Result S Refusal) (n : ℕ) (s : S) 
       (a, sym (ap is_ok (lines_are (reading line s xs) a refl)) ∙ ok)
 
 -- the inlets and the wiring, whatever the other part is
-module _ (n : ℕ) (cells : List ℕ) (m : List ℕ → Linear) where
+module _ (n : ℕ) (cells : List ℕ) (turn : Row → Row) where
   inlets_are : SizeAllowed n → length cells ≤ 64 → ((k : ℕ) → k < length cells → get_or cells k 0 < n) → inlet_lines n cells ≡ Ok (record { size = n; into = cells })
   inlets_are a few inside = lines_are inlet_line n (record { size = n; into = [] }) cells _ a (inlets_read_lem (record { size = n; into = [] }) cells (omega arith) inside)
 
-  wired_are : SizeAllowed n → InletsAllowed n cells → and_then (inlet_lines n cells) (λ i. wired n i (m i.into)) ≡ Ok (m cells)
+  wired_are : SizeAllowed n → InletsAllowed n cells → and_then (inlet_lines n cells) (wired n turn) ≡ Ok (register n cells turn)
   wired_are a i =
-      ap (λ (r : Result InletsRead Refusal). and_then r (λ i. wired n i (m i.into))) (inlets_are a i.few i.inside)
+      ap (λ (r : Result InletsRead Refusal). and_then r (wired n turn)) (inlets_are a i.few i.inside)
       ∙ cond-false _ _ _ (or_from _ _ (ap not (eq-eqb n n refl)) (le-ltb (length cells) 1 i.some))
 
-  wired_only : is_ok (and_then (inlet_lines n cells) (λ i. wired n i (m i.into))) ≡ true → InletsAllowed n cells
+  wired_only : is_ok (and_then (inlet_lines n cells) (wired n turn)) ≡ true → InletsAllowed n cells
   wired_only ok =
       let first = lines_only inlet_line n (record { size = n; into = [] }) cells (then_ok (inlet_lines n cells) _ ok) in
       let gathered = inlets_only (record { size = n; into = [] }) cells (omega arith) first.1 in
       let few : length cells ≤ 64 = omega (arith, gathered.0) in
-      let whole : is_ok (wired n (record { size = n; into = cells }) (m cells)) ≡ true =
-      sym (ap (λ (r : Result InletsRead Refusal). is_ok (and_then r (λ i. wired n i (m i.into)))) (inlets_are first.0 few gathered.1)) ∙ ok in
+      let whole : is_ok (wired n turn (record { size = n; into = cells })) ≡ true =
+      sym (ap (λ (r : Result InletsRead Refusal). is_ok (and_then r (wired n turn))) (inlets_are first.0 few gathered.1)) ∙ ok in
       record { some = go (not (eqb n n) || ltb (length cells) 1) refl whole; few = few; inside = gathered.1 }
     where
-      go : (b : Bool) → (not (eqb n n) || ltb (length cells) 1) ≡ b → is_ok (refused_if b OutOfRange (Ok (m cells))) ≡ true → 1 ≤ length cells
+      go : (b : Bool) → (not (eqb n n) || ltb (length cells) 1) ≡ b → is_ok (refused_if b OutOfRange (Ok (register n cells turn))) ≡ true → 1 ≤ length cells
       go false e ok = ltb-false (length cells) 1 (or_parts (not (eqb n n)) _ e).1
       go true e ok = absurd (false≢true ok)
 
@@ -250,14 +249,14 @@ taps_are n taps a b =
 galois_allowed : (n : ℕ) (taps cells : List ℕ) → GaloisAllowed n taps cells → galois_from n taps cells ≡ Ok (galois n (among taps) cells)
 galois_allowed n taps cells a =
     ap (λ (r : Result TapsRead Refusal). and_then r (λ t. and_then (inlet_lines n cells) (wired_galois t))) (taps_are n taps a.0 a.1)
-    ∙ wired_are n cells (galois n (among taps)) a.0 a.2
+    ∙ wired_are n cells (galois_turn n (among taps)) a.0 a.2
 
 galois_only : (n : ℕ) (taps cells : List ℕ) → is_ok (galois_from n taps cells) ≡ true → GaloisAllowed n taps cells
 galois_only n taps cells ok =
     let first = lines_only tap_line n (record { size = n; tapped = zeros }) taps (then_ok (tap_lines n taps) _ ok) in
     let more = taps_only (record { size = n; tapped = zeros }) taps first.1 in
     let rest = sym (ap (λ (r : Result TapsRead Refusal). is_ok (and_then r (λ t. and_then (inlet_lines n cells) (wired_galois t)))) (taps_are n taps first.0 more.allowed)) ∙ ok in
-    (first.0, more.allowed, wired_only n cells (galois n (among taps)) rest)
+    (first.0, more.allowed, wired_only n cells (galois_turn n (among taps)) rest)
 
 links_are : (n : ℕ) (links : List Link) → SizeAllowed n → LinksAllowed n links → link_lines n links ≡ Ok (record { size = n; links = links })
 links_are n links a b =
@@ -267,7 +266,7 @@ links_are n links a b =
 ring_allowed : (n : ℕ) (links : List Link) (cells : List ℕ) → RingAllowed n links cells → ring_from n links cells ≡ Ok (ring n links cells)
 ring_allowed n links cells a =
     ap (λ (r : Result LinksRead Refusal). and_then r (λ t. and_then (inlet_lines n cells) (wired_ring t))) (links_are n links a.0 a.1)
-    ∙ wired_are n cells (ring n links) a.0 a.2
+    ∙ wired_are n cells (ring_turn n links) a.0 a.2
 
 ring_only : (n : ℕ) (links : List Link) (cells : List ℕ) → is_ok (ring_from n links cells) ≡ true → RingAllowed n links cells
 ring_only n links cells ok =
@@ -275,7 +274,7 @@ ring_only n links cells ok =
     let more = links_only (record { size = n; links = [] }) links (omega arith) first.1 in
     let allowed : LinksAllowed n links = record { lawful = more.lawful; once = more.once; few = omega (arith, more.room) } in
     let rest = sym (ap (λ (r : Result LinksRead Refusal). is_ok (and_then r (λ t. and_then (inlet_lines n cells) (wired_ring t)))) (links_are n links first.0 allowed)) ∙ ok in
-    (first.0, allowed, wired_only n cells (ring n links) rest)
+    (first.0, allowed, wired_only n cells (ring_turn n links) rest)
 
 pub galois_exactly : (n : ℕ) (taps cells : List ℕ) → GaloisExactly n taps cells
 galois_exactly n taps cells = record { allowed = galois_allowed n taps cells; only = galois_only n taps cells }

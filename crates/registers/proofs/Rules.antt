@@ -1,10 +1,10 @@
 -- What a line answers where its conditions hold.
-use Rattle.std.proofs.Common.{◌≡◌, ℕ, zero, suc, ◌+◌, ◌<◌, ◌≤◌, Bool, true, false, ◌||◌, eqb, ltb, leb, ◌⊎◌, List, [], ◌∷◌, ◌++◌, length, get_or, take, set, Ok, Err, sym, refl, ap, ◌∙◌, inl, inr, arith}
-use mathlib.Core.Bool.{or_assoc, or_comm}
-use Rattle.std.proofs.lemmas.List.{get_or-take, length-take-le}
-use Rattle.std.proofs.lemmas.Bool.{lt-leb, le-ltb, eq-eqb, ne_eqb, and_from, or_from, or_left, or_right, or_parts, both_ways, cases_lt, cond-true, cond-false}
+use Rattle.std.proofs.Common.{◌≡◌, ℕ, ◌<◌, ◌≤◌, Bool, true, false, ◌||◌, eqb, ltb, leb, cond, ◌⊎◌, List, [], ◌∷◌, ◌++◌, length, get_or, Ok, Err, sym, refl, ap, ◌∙◌, subst, inl, inr, arith}
+use mathlib.Core.Bool.{or-false}
+use Rattle.std.proofs.lemmas.List.{get_or_append_left, get_or_push, length-append}
+use Rattle.std.proofs.lemmas.List.Folds.{list_any_at, list_any-append}
+use Rattle.std.proofs.lemmas.Bool.{lt-leb, le-ltb, eq-eqb, ne_eqb, and_from, or_from, both_ways, cases_lt, cond-true, cond-false}
 use Rattle.refusals.specs.declared.Refusal.TheVariants.{Repeated}
-use Rattle.bits.proofs.Arrays.{set_before, set_here}
 use Rattle.registers.specs.declared.Link.{Link}
 use Rattle.registers.specs.Rules.{TapsRead, with_tap, tap_line, InletsRead, with_inlet, inlet_line, LinksRead, with_link, link_line, Lawful, no_link, next_cell, same_link, is_linked}
 
@@ -35,33 +35,32 @@ link_new t link law e room = cond-false _ _ _ (link_in_range t link law) ∙ con
 
 -- a link that is not among others differs from each of them
 not_linked : (ls : List Link) (link : Link) (k : ℕ) → is_linked ls link ≡ false → k < length ls → get_or ls k no_link ≡ link → ⊥
-not_linked [] link k e h same = omega arith
-not_linked (l ∷ ls) link zero e h same = both_ways _ (or_parts (same_link l link) (is_linked ls link) e).0 (ap (λ (x : Link). same_link x link) same ∙ link_self link)
-not_linked (l ∷ ls) link (suc k) e h same = not_linked ls link k (or_parts (same_link l link) (is_linked ls link) e).1 (omega arith) same
+not_linked ls link k e h same =
+    both_ways _ e (list_any_at (λ l. same_link l link) ls k no_link h (ap (λ (l : Link). same_link l link) same ∙ link_self link))
 
 pub linked_push : (ls : List Link) (l link : Link) → is_linked (ls ++ (l ∷ [])) link ≡ (is_linked ls link || same_link l link)
-linked_push [] l link = or_comm (same_link l link) false
-linked_push (x ∷ ls) l link = ap (λ (b : Bool). same_link x link || b) (linked_push ls l link) ∙ sym (or_assoc (same_link x link) (is_linked ls link) (same_link l link))
+linked_push ls l link = list_any-append (λ x. same_link x link) ls (l ∷ []) ∙ ap (λ (b : Bool). is_linked ls link || b) (or-false (same_link l link))
 
-pub linked_at : (ls : List Link) (link : Link) (k : ℕ) → k < length ls → same_link (get_or ls k no_link) link ≡ true → is_linked ls link ≡ true
-linked_at [] link k h e = absurd (omega arith)
-linked_at (l ∷ ls) link zero h e = or_left _ (is_linked ls link) e
-linked_at (l ∷ ls) link (suc k) h e = or_right (same_link l link) _ (linked_at ls link k (omega arith) e)
+-- no link stands twice
+abbrev Once : List Link → Type 0
+Once xs = (j k : ℕ) → j < k → k < length xs → get_or xs j no_link ≡ get_or xs k no_link → ⊥
 
--- links that are none twice, and one more that is not among them
-pub once_more : (xs : List Link) (n : ℕ) (link : Link) → n < length xs
-    → ((j k : ℕ) → j < k → k < n → get_or xs j no_link ≡ get_or xs k no_link → ⊥) → is_linked (take n xs) link ≡ false
-    → (j k : ℕ) → j < k → k < n + 1 → get_or (set xs n link) j no_link ≡ get_or (set xs n link) k no_link → ⊥
-once_more xs n link room once new j k l h e = go (cases_lt k n)
+once_more : (xs : List Link) (link : Link) → Once xs → is_linked xs link ≡ false → Once (xs ++ (link ∷ []))
+once_more xs link once new j k l h e = go (cases_lt k (length xs))
   where
-    front : length (take n xs) ≡ n
-    front = length-take-le n xs (omega arith)
+    low : (i : ℕ) → i < length xs → get_or (xs ++ (link ∷ [])) i no_link ≡ get_or xs i no_link
+    low i g = get_or_append_left xs (link ∷ []) no_link i g
 
-    go : (k < n) ⊎ (n ≤ k) → ⊥
-    go (inl g) = once j k l g (sym (set_before xs n link no_link room j (omega arith)) ∙ e ∙ set_before xs n link no_link room k g)
+    go : (k < length xs) ⊎ (length xs ≤ k) → ⊥
+    go (inl g) = once j k l g (sym (low j (omega arith)) ∙ e ∙ low k g)
     go (inr g) =
-        let last : k ≡ n = omega arith in
-        let low : j < n = omega arith in
-        not_linked (take n xs) link j new (omega (arith, front))
-        (get_or-take n xs j no_link low ∙ sym (set_before xs n link no_link room j low) ∙ e
-        ∙ ap (λ (i : ℕ). get_or (set xs n link) i no_link) last ∙ set_here xs n link no_link room)
+        let long = length-append xs (link ∷ []) in
+        let last : k ≡ length xs = omega arith in
+        let before : j < length xs = omega arith in
+        not_linked xs link j new before
+        (sym (low j before) ∙ e ∙ ap (λ (i : ℕ). get_or (xs ++ (link ∷ [])) i no_link) last ∙ get_or_push xs link no_link (length xs) refl)
+
+-- pushed or not, a link that is not among others leaves none twice
+pub once_pushed : (xs ys : List Link) (link : Link) (pushed : Bool) → ys ≡ cond pushed (xs ++ (link ∷ [])) xs → Once xs → is_linked xs link ≡ false → Once ys
+once_pushed xs ys link true e once new = subst Once (sym e) (once_more xs link once new)
+once_pushed xs ys link false e once new = subst Once (sym e) once

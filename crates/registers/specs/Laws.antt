@@ -1,8 +1,7 @@
 -- The registers superpose, and their shift is the one of their meaning.
-use Rattle.std.specs.Prelude.{◌≡◌, ℕ, ◌-◌, ◌^◌, ◌<◌, ◌≤◌, ◌&&◌, List, [], ◌∷◌, length, take, ◌==◌, bit_xor, refl}
+use Rattle.std.specs.Prelude.{◌≡◌, ℕ, ◌-◌, ◌^◌, ◌<◌, ◌≤◌, ◌&&◌, List, [], ◌∷◌, length, ◌==◌, bit_xor, refl}
 use Rattle.std.proofs.Common.{sym, ap, ap₂, ◌∙◌, subst, arith}
 use Rattle.std.proofs.lemmas.Nat.{xor_lt}
-use Rattle.std.proofs.lemmas.List.{length-take-le}
 use Rattle.bits.specs.Rows.{Row, xor, plus, upto}
 use Rattle.bits.specs.Words.{bit_of, word_of}
 use Rattle.bits.proofs.Sums.{ext, xor_swap, and_xor, upto_plus}
@@ -38,10 +37,8 @@ superposes n into turn additive = record {
 }
 
 -- its counts are those of its parts
-pub counted : (n k : ℕ) (cells : List ℕ) (turn : Row → Row) → 2 ≤ n → n ≤ 64 → length cells ≡ 64 → 1 ≤ k → k ≤ 64 → Counted (register n (take k cells) turn)
-counted n k cells turn some few whole one room =
-    let e : length (take k cells) ≡ k = length-take-le k cells (omega arith) in
-    record { channels_some = omega arith; channels_few = omega arith; outlets_some = omega arith; outlets_few = few }
+pub counted : (n : ℕ) (into : List ℕ) (turn : Row → Row) → 2 ≤ n → n ≤ 64 → 1 ≤ length into → length into ≤ 64 → Counted (register n into turn)
+counted n into turn some few one room = record { channels_some = one; channels_few = room; outlets_some = omega arith; outlets_few = few }
 
 -- the word of the turned cells and that of the injected bits, summed
 module _ (n m word a b : ℕ) (into : List ℕ) (turn : Row → Row) (s : Row) (alike : n ≡ m) (turned : a ≡ word_of n (turn s)) (given : b ≡ word_of m (fed into (bit_of word))) where

@@ -46,15 +46,15 @@ galois n tapped into = register n into (galois_turn n tapped)
 abbrev pub ring : ℕ → List Link → List ℕ → Linear
 ring n links into = register n into (ring_turn n links)
 
--- parts of one size, with at least one inlet, can be wired together
-abbrev pub wired : ℕ → InletsRead → Linear → Result Linear Refusal
-wired n inlets m = refused_if (not (n == inlets.size) || nat_lt (length inlets.into) 1) OutOfRange (Ok m)
+-- parts of one size, with at least one inlet, can be wired together: n and turn tell the part that turns the cells
+abbrev pub wired : ℕ → (Row → Row) → InletsRead → Result Linear Refusal
+wired n turn inlets = refused_if (not (n == inlets.size) || nat_lt (length inlets.into) 1) OutOfRange (Ok (register n inlets.into turn))
 
 abbrev pub wired_galois : TapsRead → InletsRead → Result Linear Refusal
-wired_galois t inlets = wired t.size inlets (galois t.size t.tapped inlets.into)
+wired_galois t = wired t.size (galois_turn t.size t.tapped)
 
 abbrev pub wired_ring : LinksRead → InletsRead → Result Linear Refusal
-wired_ring t inlets = wired t.size inlets (ring t.size t.links inlets.into)
+wired_ring t = wired t.size (ring_turn t.size t.links)
 
 -- a register from its lines: size, taps or links, inlets, read in this order
 abbrev pub galois_from : ℕ → List ℕ → List ℕ → Result Linear Refusal

@@ -1,6 +1,7 @@
 -- The rules of a register's lines: its size, its taps or links, its inlets.
 -- Each line is read after what the lines before it left, and is refused or adds to that.
-use Rattle.std.specs.Prelude.{ℕ, suc, ◌<◌, Bool, false, cond, ◌&&◌, ◌||◌, List, [], ◌∷◌, ◌++◌, length, Ok, Result, ◌==◌, ◌≢◌, nat_le, nat_lt}
+use Rattle.std.specs.Prelude.{ℕ, suc, ◌<◌, Bool, cond, ◌&&◌, ◌||◌, List, [], ◌∷◌, ◌++◌, length, Ok, Result, ◌==◌, ◌≢◌, nat_le, nat_lt}
+use Rattle.std.specs.List.{list_any}
 use Rattle.bits.specs.Rows.{Row, zeros}
 use Rattle.refusals.specs.declared.Refusal.{Refusal}
 use Rattle.refusals.specs.declared.Refusal.TheVariants.{OutOfRange, Repeated, TooMany}
@@ -52,9 +53,9 @@ no_link = record { from = 0; to = 0 }
 abbrev pub same_link : Link → Link → Bool
 same_link a b = a.from == b.from && a.to == b.to
 
+-- a link is among others
 abbrev pub is_linked : List Link → Link → Bool
-is_linked [] link = false
-is_linked (l ∷ ls) link = same_link l link || is_linked ls link
+is_linked links link = list_any (λ l. same_link l link) links
 
 abbrev pub with_link : LinksRead → Link → LinksRead
 with_link t link = record { size = t.size; links = t.links ++ (link ∷ []) }

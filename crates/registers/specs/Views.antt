@@ -1,26 +1,23 @@
 -- What the values of this crate stand for.
-use Rattle.std.specs.Prelude.{take}
 use Rattle.bits.specs.Words.{bit_of}
+use Rattle.lists.specs.Listed.{listed}
 use Rattle.machine.specs.Linear.{State}
 use Rattle.registers.specs.declared.taps.Taps.{Taps}
 use Rattle.registers.specs.declared.links.Links.{Links}
-use Rattle.registers.specs.declared.galois.GaloisRegister.{GaloisRegister}
-use Rattle.registers.specs.declared.ring.RingGenerator.{RingGenerator}
+use Rattle.registers.specs.declared.register.Register.{Register}
 use Rattle.registers.specs.declared.inlets.Inlets.{Inlets}
 use Rattle.registers.specs.Rules.{TapsRead, LinksRead, InletsRead}
-use Rattle.registers.specs.Registers.{galois, ring}
+use Rattle.registers.specs.Registers.{register}
 
 abbrev pub taps_read : Taps → TapsRead
-taps_read t = record { size = t.size; tapped = bit_of t.set }
+taps_read t = record { size = t.size.cells; tapped = bit_of t.set }
 
 abbrev pub links_read : Links → LinksRead
-links_read t = record { size = t.size; links = take t.count t.links }
+links_read t = record { size = t.size.cells; links = listed t.links }
 
 abbrev pub inlets_read : Inlets → InletsRead
-inlets_read t = record { size = t.size; into = take t.channels t.cells }
+inlets_read t = record { size = t.size.cells; into = listed t.cells }
 
-abbrev pub galois_state : GaloisRegister → State
-galois_state g = record { meaning = galois g.taps.size (taps_read g.taps).tapped (inlets_read g.inlets).into; cells = bit_of g.cells }
-
-abbrev pub ring_state : RingGenerator → State
-ring_state r = record { meaning = ring r.links.size (links_read r.links).links (inlets_read r.inlets).into; cells = bit_of r.cells }
+-- a register over a part that turns its cells: its meaning, and its cells
+abbrev pub register_state : {T : Type 0} {turns : _} → Register T turns → State
+register_state {turns = turns} r = record { meaning = register (turns.size r.turning) (inlets_read r.inlets).into (turns.turned r.turning); cells = bit_of r.cells }

@@ -1,18 +1,28 @@
-ghost use Rattle.std.specs.Prelude.{◌≡◌, ◌^◌, ◌<◌, ◌≤◌};
+ghost use Rattle.std.specs.Prelude.{◌≡◌};
+ghost use Rattle.machine.specs.Linear.{at_reset};
+ghost use Rattle.refusals.specs.Chains.{ok_map};
+ghost use Rattle.registers.specs.Allowed.{GaloisExactly};
+ghost use Rattle.registers.specs.Registers.{galois_from};
+ghost use Rattle.registers.specs.Views.{register_state};
 
 use crate::inlets::Inlets;
+use crate::register::Register;
 use crate::taps::Taps;
+use refusals::{Refusal, gathered};
 
-mod make;
-pub mod shifts;
+// A Galois register (LFSR): taps turn its cells.
+pub type GaloisRegister = Register<Taps>;
 
-// A Galois register (LFSR): cell i in bit i of `cells`.
-#[derive(Drop)]
-pub struct GaloisRegister {
-    cells: u64,
-    taps: Taps,
-    inlets: Inlets,
-    ghost alike: { taps.size ≡ inlets.size },
-    ghost some: { 1 ≤ inlets.channels },
-    ghost held: { cells < 2 ^ taps.size },
+impl GaloisRegister {
+    // A register at reset, from its lines: the refusal is the first that reading them one by one meets, and there is one exactly
+    // where the lines are not allowed.
+    #[tactic(auto, using(crate::proofs::Exactly::galois_exactly))]
+    pub fn new(size: usize, taps: &[usize], inlets: &[usize]) -> Result<GaloisRegister, Refusal>
+        ensures made { ok_map register_state result ≡ ok_map at_reset (galois_from size taps.now inlets.now) }
+        ensures exactly { GaloisExactly size taps.now inlets.now }
+    {
+        let turning = gathered(Taps::new(size)?, taps)?;
+        let fed = gathered(Inlets::new(size)?, inlets)?;
+        Register::wired(turning, fed)
+    }
 }

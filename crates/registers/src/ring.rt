@@ -1,18 +1,29 @@
-ghost use Rattle.std.specs.Prelude.{◌≡◌, ◌^◌, ◌<◌, ◌≤◌};
+ghost use Rattle.std.specs.Prelude.{◌≡◌};
+ghost use Rattle.machine.specs.Linear.{at_reset};
+ghost use Rattle.refusals.specs.Chains.{ok_map};
+ghost use Rattle.registers.specs.Allowed.{RingExactly};
+ghost use Rattle.registers.specs.Registers.{ring_from};
+ghost use Rattle.registers.specs.Views.{register_state};
 
+use crate::Link;
 use crate::inlets::Inlets;
 use crate::links::Links;
+use crate::register::Register;
+use refusals::{Refusal, gathered};
 
-mod make;
-pub mod shifts;
+// A ring generator: links turn its cells.
+pub type RingGenerator = Register<Links>;
 
-// A ring generator: cell i in bit i of `cells`.
-#[derive(Drop)]
-pub struct RingGenerator {
-    cells: u64,
-    links: Links,
-    inlets: Inlets,
-    ghost alike: { links.size ≡ inlets.size },
-    ghost some: { 1 ≤ inlets.channels },
-    ghost held: { cells < 2 ^ links.size },
+impl RingGenerator {
+    // A register at reset, from its lines: the refusal is the first that reading them one by one meets, and there is one exactly
+    // where the lines are not allowed.
+    #[tactic(auto, using(crate::proofs::Exactly::ring_exactly))]
+    pub fn new(size: usize, links: &[Link], inlets: &[usize]) -> Result<RingGenerator, Refusal>
+        ensures made { ok_map register_state result ≡ ok_map at_reset (ring_from size links.now inlets.now) }
+        ensures exactly { RingExactly size links.now inlets.now }
+    {
+        let turning = gathered(Links::new(size)?, links)?;
+        let fed = gathered(Inlets::new(size)?, inlets)?;
+        Register::wired(turning, fed)
+    }
 }

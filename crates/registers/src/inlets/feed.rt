@@ -9,13 +9,15 @@ use bits::low;
 impl Inlets {
     // What a word's bits put into each cell. The word is walked by its set bits: a silent shift looks at no channel.
     pub(crate) fn feed(&self, word: u64) -> u64
-        ensures { result ≡ word_of self.now.size (fed (inlets_read self.now).into (bit_of word)) }
+        ensures { result ≡ word_of self.now.size.cells (fed (inlets_read self.now).into (bit_of word)) }
     {
-        let mut rest = low(word, self.channels);
+        let cells = self.cells.as_slice();
+        let channels = self.channels();
+        let mut rest = low(word, channels);
         let mut fill = 0u64;
         while rest != 0 {
             let channel = rest.trailing_zeros() as usize;
-            fill ^= 1u64 << self.cells[channel];
+            fill ^= 1u64 << cells[channel];
             rest ^= 1u64 << channel;
         }
         fill

@@ -1,10 +1,11 @@
-ghost use Rattle.std.specs.Prelude.{◌≡◌};
+ghost use Rattle.std.specs.Prelude.{◌≡◌, length};
 ghost use Rattle.refusals.specs.Chains.{ok_map};
 ghost use Rattle.registers.specs.Rules.{InletsRead, no_inlets, inlet_line};
 ghost use Rattle.registers.specs.Views.{inlets_read};
 
 use crate::inlets::Inlets;
-use crate::sizes::allowed_size;
+use crate::size::Size;
+use lists::ShortList;
 use refusals::{Gathers, Refusal};
 
 impl Inlets {
@@ -12,12 +13,16 @@ impl Inlets {
     pub fn new(size: usize) -> Result<Inlets, Refusal>
         ensures { ok_map inlets_read result ≡ no_inlets size }
     {
-        let size = allowed_size(size)?;
-        Ok(Inlets {
-            size,
-            cells: [0; 64],
-            channels: 0,
-        })
+        let size = Size::try_from(size)?;
+        let cells = ShortList::new();
+        Ok(Inlets { size, cells })
+    }
+
+    // How many channels there are.
+    pub(crate) fn channels(&self) -> usize
+        ensures { result ≡ length (inlets_read self.now).into }
+    {
+        self.cells.len()
     }
 }
 
@@ -32,11 +37,9 @@ impl Gathers for Inlets {
 
     // One inlet more, of the next channel into the cell.
     fn add(&mut self, cell: usize) -> Result<(), Refusal> {
-        if self.channels >= 64 || cell >= self.size {
+        if cell >= self.size.cells {
             return Err(Refusal::OutOfRange);
         }
-        self.cells[self.channels] = cell as u8;
-        self.channels += 1;
-        Ok(())
+        self.cells.push(cell as u8).map_err(|_| Refusal::OutOfRange)
     }
 }

@@ -1,20 +1,29 @@
-ghost use Rattle.std.specs.Prelude.{◌≡◌, ◌^◌, ◌<◌};
-ghost use Rattle.bits.specs.Words.{bit_of, word_of};
+ghost use Rattle.lists.specs.Listed.{listed};
+ghost use Rattle.registers.specs.Laws.{ring_plus};
 ghost use Rattle.registers.specs.Registers.{ring_turn};
-ghost use Rattle.registers.specs.Views.{links_read};
 
-use crate::circle::circled;
 use crate::links::Links;
+use crate::turns::Turns;
 
-impl Links {
-    // The cells after a shift in which nothing is injected.
-    pub(crate) fn turn(&self, cells: u64) -> u64
-        requires { cells < 2 ^ self.now.size }
-        ensures { result ≡ word_of self.now.size (ring_turn self.now.size (links_read self.now).links (bit_of cells)) }
-    {
-        let mut moved = circled(cells, self.size);
-        for k in 0..self.count {
-            let link = self.links[k];
+impl Turns for Links {
+    ghost size = { λ t. t.size.cells };
+
+    ghost turned = { λ t. ring_turn t.size.cells (listed t.links) };
+
+    ghost some = { λ t. t.size.some };
+
+    ghost few = { λ t. t.size.few };
+
+    ghost sums = { λ t. ring_plus t.size.cells (listed t.links) };
+
+    fn size(&self) -> usize {
+        self.size.cells
+    }
+
+    fn turn(&self, cells: u64) -> u64 {
+        let mut moved = self.size.circled(cells);
+        let links = self.links.as_slice();
+        for link in links {
             moved ^= (cells >> link.from & 1) << link.to;
         }
         moved

@@ -3,7 +3,7 @@ ghost use Rattle.refusals.specs.Chains.{ok_map};
 ghost use Rattle.registers.specs.Rules.{TapsRead, no_taps, tap_line};
 ghost use Rattle.registers.specs.Views.{taps_read};
 
-use crate::sizes::allowed_size;
+use crate::size::Size;
 use crate::taps::Taps;
 use bits::has;
 use refusals::{Gathers, Refusal};
@@ -13,7 +13,7 @@ impl Taps {
     pub fn new(size: usize) -> Result<Taps, Refusal>
         ensures { ok_map taps_read result ≡ no_taps size }
     {
-        let size = allowed_size(size)?;
+        let size = Size::try_from(size)?;
         Ok(Taps { size, set: 0 })
     }
 }
@@ -29,7 +29,7 @@ impl Gathers for Taps {
 
     // One tap more.
     fn add(&mut self, tap: usize) -> Result<(), Refusal> {
-        if tap < 1 || tap >= self.size {
+        if tap < 1 || tap >= self.size.cells {
             return Err(Refusal::OutOfRange);
         }
         if has(self.set, tap) {

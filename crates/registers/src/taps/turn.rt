@@ -1,20 +1,28 @@
-ghost use Rattle.std.specs.Prelude.{◌≡◌, ◌^◌, ◌<◌};
-ghost use Rattle.bits.specs.Words.{bit_of, word_of};
+ghost use Rattle.bits.specs.Words.{bit_of};
+ghost use Rattle.registers.specs.Laws.{galois_plus};
 ghost use Rattle.registers.specs.Registers.{galois_turn};
-ghost use Rattle.registers.specs.Views.{taps_read};
 
-use crate::circle::circled;
 use crate::taps::Taps;
-use bits::has;
+use crate::turns::Turns;
 
-impl Taps {
-    // The cells after a shift in which nothing is injected.
-    pub(crate) fn turn(&self, cells: u64) -> u64
-        requires { cells < 2 ^ self.now.size }
-        ensures { result ≡ word_of self.now.size (galois_turn self.now.size (taps_read self.now).tapped (bit_of cells)) }
-    {
-        let moved = circled(cells, self.size);
-        if has(cells, self.size - 1) {
+impl Turns for Taps {
+    ghost size = { λ t. t.size.cells };
+
+    ghost turned = { λ t. galois_turn t.size.cells (bit_of t.set) };
+
+    ghost some = { λ t. t.size.some };
+
+    ghost few = { λ t. t.size.few };
+
+    ghost sums = { λ t. galois_plus t.size.cells (bit_of t.set) };
+
+    fn size(&self) -> usize {
+        self.size.cells
+    }
+
+    fn turn(&self, cells: u64) -> u64 {
+        let moved = self.size.circled(cells);
+        if self.size.last(cells) {
             moved ^ self.set
         } else {
             moved

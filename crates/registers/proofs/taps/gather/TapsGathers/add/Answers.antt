@@ -7,23 +7,16 @@ use Rattle.bits.specs.Rows.{Row}
 use Rattle.bits.proofs.Bitwise.{bits_with}
 use Rattle.refusals.specs.Chains.{answer_of, left_by}
 use Rattle.registers.specs.Views.{taps_read}
-use Rattle.registers.proofs.Rules.{tap_repeated, tap_new}
+use Rattle.registers.proofs.Rules.{tap_new}
 use Rattle.registers.proofs.taps.gather.TapsGathers.add.Goals as goal
-
-pub returns-then-has : goal.returns-then-has
-returns-then-has c =
-    let line = tap_repeated (taps_read c.args.self.now) c.args.tap c.if-tap-lt1.false c.if-tap-self.false c.if-has.ensures in
-    record { answer = sym (ap answer_of line); after = sym (ap (left_by _) line) }
 
 pub invariant_of-self : goal.invariant_of-self
 invariant_of-self c =
     let t = c.args.self.now in
-    let few : c.args.tap < 64 = omega arith in
-    let one : (1 * 2 ^ c.args.tap) % 2 ^ 64 < 2 ^ t.size = rw one_shl (pow-lt c.if-tap-self.false) in
+    let few : c.args.tap < 64 = omega (arith, t.size.few, c.if-tap-self.false) in
+    let one : (1 * 2 ^ c.args.tap) % 2 ^ 64 < 2 ^ t.size.cells = rw one_shl (pow-lt c.if-tap-self.false) in
     record {
-      some = t.some;
-      few = t.few;
-      within = or_lt t.size t.set _ t.within one;
+      within = or_lt t.size.cells t.set _ t.within one;
       apart =
           ap (λ (s : Row). s 0) (bits_with t.set c.args.tap few)
           ∙ ap (λ (b : Bool). b || eqb c.args.tap 0) t.apart ∙ ne_eqb c.args.tap 0 (λ z. omega arith);
@@ -33,7 +26,7 @@ pub returns : goal.returns
 returns c =
     let t = taps_read c.args.self.now in
     let line = tap_new t c.args.tap c.if-tap-lt1.false c.if-tap-self.false c.if-has.ensures in
-    let few : c.args.tap < 64 = omega (arith, c.args.self.now.few, c.if-tap-self.false) in
+    let few : c.args.tap < 64 = omega (arith, c.args.self.now.size.few, c.if-tap-self.false) in
     record {
       answer = sym (ap answer_of line);
       after = ap (λ (s : Row). record { size = t.size; tapped = s }) (bits_with c.args.self.now.set c.args.tap few) ∙ sym (ap (left_by t) line);
