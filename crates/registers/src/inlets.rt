@@ -1,4 +1,5 @@
-ghost use Rattle.std.specs.Prelude.{ℕ, ◌<◌, length, slice_index};
+ghost use Rattle.std.specs.Prelude.{◌<◌};
+ghost use Rattle.std.specs.List.{All};
 ghost use Rattle.lists.specs.Listed.{listed};
 
 mod feed;
@@ -12,5 +13,5 @@ use lists::ShortList;
 pub struct Inlets {
     pub(crate) size: Size,
     pub(crate) cells: ShortList<u8, 64>,
-    ghost inside: { (k : ℕ) → k < length (listed cells) → slice_index (listed cells) k < size.cells },
+    ghost inside: { All (λ cell. cell < size.cells) (listed cells) },
 }

@@ -3,6 +3,7 @@ use lib.Bits.{bit_xor, xor_lt}
 use lib.Count.{count_trailing_zeros}
 use lib.Pow.{pow-lt}
 use Rattle.std.proofs.lemmas.Nat.{one_shl}
+use Rattle.std.proofs.lemmas.List.Elements.{All-get_or}
 use Rattle.bits.specs.Words.{bit_of, word_of}
 use Rattle.bits.proofs.Bitwise.{lowest_set, set_below, clear_less, word_fits}
 use Rattle.lists.proofs.Lengths.{listed_few}
@@ -53,7 +54,7 @@ loop-rest-preserved c =
     let inv = c.loop-rest.invariant in
     let low = lowest c.loop-rest.rest _ c.loop-rest-test.true inv.low (listed_few t.cells) in
     let cell = get_or into p 0 in
-    let inside : cell < t.size.cells = t.inside p low.below in
+    let inside : cell < t.size.cells = All-get_or (λ (x : ℕ). x < t.size.cells) into p 0 low.below t.inside in
     let few : cell < 64 = lt_of_lt_of_le inside t.size.few in
     rw c.as_slice-cells.ensures
     (record {
