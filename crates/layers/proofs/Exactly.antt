@@ -1,21 +1,17 @@
 -- A shifter is made exactly of the sets that are allowed.
-use Rattle.std.proofs.Common.{◌≡◌, ℕ, zero, suc, ◌+◌, ◌<◌, ◌≤◌, Bool, true, false, ◌||◌, eqb, ltb, leb, List, [], ◌∷◌, ◌++◌, length, get_or, is_ok, Ok, Result, sym, refl, ap, ◌∙◌, append_assoc, arith}
+use Rattle.std.proofs.Common.{◌≡◌, ℕ, zero, suc, ◌+◌, ◌<◌, ◌≤◌, true, List, [], ◌∷◌, ◌++◌, length, get_or, is_ok, Ok, Result, sym, ap, ◌∙◌, append_assoc, arith}
 use Rattle.std.proofs.lemmas.List.{append-nil, length-append}
-use Rattle.std.proofs.lemmas.Bool.{leb-false, ltb-false, eqb-false, le-ltb, or_parts, false≢true, cond-false}
+use Rattle.std.proofs.lemmas.Bool.Decides.{nat_tests}
 use Rattle.refusals.specs.declared.Refusal.{Refusal}
-use Rattle.refusals.specs.declared.Refusal.TheVariants.{OutOfRange}
 use Rattle.refusals.proofs.Lines.{then_ok}
-use Rattle.refusals.specs.Chains.{and_then, refused_if, reading}
+use Rattle.refusals.specs.Chains.{and_then, reading}
 use Rattle.layers.specs.Shifter.{set_line, set_lines, some_outlet, outlets_from, ShifterExactly}
-use Rattle.layers.specs.Mixes.{set_new}
+
+set_new : (sets : List ℕ) (set : ℕ) → length sets < 64 → 0 < set → set_line sets set ≡ Ok (sets ++ (set ∷ []))
+set_new sets set room some = grind (arith, nat_tests)
 
 set_accepts : (sets : List ℕ) (set : ℕ) → is_ok (set_line sets set) ≡ true → (length sets < 64) × (0 < set)
-set_accepts sets set ok = go (leb 64 (length sets) || eqb set 0) refl ok
-  where
-    go : (a : Bool) → (leb 64 (length sets) || eqb set 0) ≡ a → is_ok (refused_if a OutOfRange (Ok (sets ++ (set ∷ [])))) ≡ true
-        → (length sets < 64) × (0 < set)
-    go false e ok = let both = or_parts _ _ e in let ne = eqb-false set 0 both.1 in (leb-false 64 _ both.0, omega arith)
-    go true e ok = absurd (false≢true ok)
+set_accepts sets set ok = (grind (arith, nat_tests), grind (arith, nat_tests))
 
 sets_read_lem : (sofar sets : List ℕ) → length sofar + length sets ≤ 64 → ((k : ℕ) → k < length sets → 0 < get_or sets k 0)
     → reading set_line sofar sets ≡ Ok (sofar ++ sets)
@@ -44,21 +40,14 @@ sets_only sofar (x ∷ xs) room ok =
 lines_are : (sets : List ℕ) → length sets ≤ 64 → ((k : ℕ) → k < length sets → 0 < get_or sets k 0) → outlets_from sets ≡ some_outlet sets
 lines_are sets few filled = ap (λ (r : Result (List ℕ) Refusal). and_then r some_outlet) (sets_read_lem [] sets (omega arith) filled)
 
-outlet_only : (sets : List ℕ) → is_ok (some_outlet sets) ≡ true → 1 ≤ length sets
-outlet_only sets ok = go (ltb (length sets) 1) refl ok
-  where
-    go : (b : Bool) → ltb (length sets) 1 ≡ b → is_ok (refused_if b OutOfRange (Ok sets)) ≡ true → 1 ≤ length sets
-    go false e ok = ltb-false (length sets) 1 e
-    go true e ok = absurd (false≢true ok)
-
 pub shifter_exactly : (sets : List ℕ) → ShifterExactly sets
 shifter_exactly sets = record {
-  allowed = λ a. lines_are sets a.few a.filled ∙ cond-false _ _ _ (le-ltb (length sets) 1 a.some);
+  allowed = λ a. lines_are sets a.few a.filled ∙ grind (arith, nat_tests);
   only = λ ok.
       let more = sets_only [] sets (omega arith) (then_ok (set_lines sets) some_outlet ok) in
       let few : length sets ≤ 64 = omega (arith, more.0) in
       record {
-        some = outlet_only sets (sym (ap is_ok (lines_are sets few more.1)) ∙ ok);
+        some = let accepted = sym (ap is_ok (lines_are sets few more.1)) ∙ ok in grind (arith, nat_tests);
         few = few;
         filled = more.1;
       };

@@ -1,16 +1,17 @@
 -- The phase shifter: its law, and the words that it goes by.
-use Rattle.std.specs.Prelude.{◌≡◌, ℕ, ◌<◌, ◌≤◌, Bool, ◌&&◌, List, [], ◌∷◌, ◌++◌, length, take, Ok, slice_index}
+use Rattle.std.specs.Prelude.{◌≡◌, ℕ, ◌≤◌, Bool, ◌&&◌, List, length, slice_index}
 use Rattle.std.proofs.Common.{ap, ◌∙◌, arith}
 use Rattle.std.proofs.Math.Bool.{and-false}
 use Rattle.std.specs.Int.Bits.{bit_and}
-use Rattle.std.proofs.lemmas.List.{length-take-le}
-use Rattle.std.proofs.lemmas.Bool.{lt-leb, ne_eqb, or_from, cond-false}
+use Rattle.std.proofs.lemmas.List.{length-take}
 use Rattle.bits.specs.Rows.{Row, plus, upto, sum_of}
 use Rattle.bits.specs.Words.{bit_of, word_of}
 use Rattle.bits.proofs.Sums.{ext, and_xor, sum_plus, sum_same, sum_short, upto_at, upto_past}
 use Rattle.bits.proofs.Bitwise.{bit_of_and, word_bits}
 use Rattle.machine.specs.Linear.{Linear, Superposes, Counted}
-use Rattle.layers.specs.Shifter.{mixed, shifter, set_line}
+use Rattle.lists.specs.declared.short_list.ShortList.{ShortList}
+use Rattle.lists.specs.Listed.{listed}
+use Rattle.layers.specs.Shifter.{mixed, shifter}
 
 mixed_plus : (n : ℕ) (sets : List ℕ) (s t : Row) → mixed n sets (plus s t) ≡ plus (mixed n sets s) (mixed n sets t)
 mixed_plus n sets s t =
@@ -23,13 +24,11 @@ superposes m sets law = record {
   out_sum = λ s t. ap (mixed m.outlets sets) (law.out_sum s t) ∙ mixed_plus m.outlets sets (m.out s) (m.out t);
 }
 
-pub counted : (m : Linear) (k : ℕ) (words : List ℕ) → length words ≡ 64 → 1 ≤ k → k ≤ 64 → Counted m → Counted (shifter m (take k words))
-counted m k words whole some room below =
-    let e : length (take k words) ≡ k = length-take-le k words (omega arith) in
-    record { channels_some = below.channels_some; channels_few = below.channels_few; outlets_some = omega arith; outlets_few = omega arith }
-
-pub set_new : (sets : List ℕ) (set : ℕ) → length sets < 64 → 0 < set → set_line sets set ≡ Ok (sets ++ (set ∷ []))
-set_new sets set room some = cond-false _ _ _ (or_from _ _ (lt-leb 64 _ room) (ne_eqb set 0 (λ z. omega arith)))
+pub counted : (m : Linear) (sets : ShortList ℕ 64) → 1 ≤ length (listed sets) → Counted m → Counted (shifter m (listed sets))
+counted m sets some below =
+    let room = sets.room in
+    let few : length (listed sets) ≤ 64 = omega (arith, length-take {A = ℕ}) in
+    record { channels_some = below.channels_some; channels_few = below.channels_few; outlets_some = some; outlets_few = few }
 
 -- the sum that one set takes of a word
 pub sum_and : (set word : ℕ) → sum_of 64 (bit_of (bit_and set word)) ≡ sum_of 64 (λ j. bit_of set j && bit_of word j)

@@ -24,7 +24,7 @@ impl<M> Delay<M> {
         Delay { below, kept: 0 }
     }
 
-    // The machine below.
+    // The machine below. Each layer says this itself: nothing is generic over layers, so a trait of it would have no caller.
     pub fn below(&self) -> &M
         ensures { result.now ≡ self.now.below }
     {
@@ -45,6 +45,7 @@ impl<M: Machine> Machine for Delay<M> {
 
     ghost held = { λ d. let m = M.Machine.meaning d.below in Delays.held m.size m.outlets (M.Machine.cells d.below) (bit_of d.kept) };
 
+    // What stays as it is below is asked below: a default method of `Machine` has no machine below to ask.
     fn channels(&self) -> usize {
         self.below.channels()
     }

@@ -1,4 +1,5 @@
-ghost use Rattle.std.specs.Prelude.{◌≤◌};
+ghost use Rattle.std.specs.Prelude.{◌≤◌, length};
+ghost use Rattle.lists.specs.Listed.{listed};
 
 use crate::sets::OutletSets;
 
@@ -10,5 +11,5 @@ pub mod reads;
 pub struct PhaseShifter<M> {
     below: M,
     sets: OutletSets,
-    ghost some: { 1 ≤ sets.outlets },
+    ghost some: { 1 ≤ length (listed sets.words) },
 }

@@ -3,6 +3,7 @@ ghost use Rattle.layers.specs.Shifter.{set_line};
 ghost use Rattle.layers.specs.Views.{sets_read};
 
 use crate::sets::OutletSets;
+use lists::ShortList;
 use refusals::{Gathers, Refusal};
 
 impl OutletSets {
@@ -11,8 +12,7 @@ impl OutletSets {
         ensures { sets_read result ≡ [] }
     {
         OutletSets {
-            words: [0; 64],
-            outlets: 0,
+            words: ShortList::new(),
         }
     }
 }
@@ -28,11 +28,9 @@ impl Gathers for OutletSets {
 
     // The set of one outlet more.
     fn add(&mut self, set: u64) -> Result<(), Refusal> {
-        if self.outlets >= 64 || set == 0 {
+        if set == 0 {
             return Err(Refusal::OutOfRange);
         }
-        self.words[self.outlets] = set;
-        self.outlets += 1;
-        Ok(())
+        self.words.push(set).map_err(|_| Refusal::OutOfRange)
     }
 }

@@ -1,4 +1,4 @@
-ghost use Rattle.std.specs.Prelude.{◌≡◌};
+ghost use Rattle.std.specs.Prelude.{◌≡◌, length};
 ghost use Rattle.bits.specs.Words.{bit_of, word_of};
 ghost use Rattle.layers.specs.Shifter.{mixed};
 ghost use Rattle.layers.specs.Views.{sets_read};
@@ -9,11 +9,11 @@ use bits::parity;
 impl OutletSets {
     // The sum that each set takes of a word's bits.
     pub(crate) fn mix(&self, word: u64) -> u64
-        ensures { result ≡ word_of self.now.outlets (mixed 64 (sets_read self.now) (bit_of word)) }
+        ensures { result ≡ word_of (length (sets_read self.now)) (mixed 64 (sets_read self.now) (bit_of word)) }
     {
         let mut mixture = 0u64;
-        for k in 0..self.outlets {
-            mixture |= (parity(self.words[k] & word) as u64) << k;
+        for (k, set) in self.words.as_slice().iter().enumerate() {
+            mixture |= (parity(set & word) as u64) << k;
         }
         mixture
     }

@@ -13,18 +13,17 @@ impl<M: Machine> Machine for PhaseShifter<M> {
 
     ghost superposition = { λ m. superposes (M.Machine.meaning m.below) (sets_read m.sets) (M.Machine.superposition m.below) };
 
-    ghost counted = { λ m.
-        let t = m.sets in
-        Mixes.counted (M.Machine.meaning m.below) t.outlets t.words t.whole m.some t.room (M.Machine.counted m.below) };
+    ghost counted = { λ m. Mixes.counted (M.Machine.meaning m.below) m.sets.words m.some (M.Machine.counted m.below) };
 
     ghost held = { λ p. M.Machine.held p.below };
 
+    // What stays as it is below is done below: a default method of `Machine` has no machine below to call.
     fn channels(&self) -> usize {
         self.below.channels()
     }
 
     fn outlets(&self) -> usize {
-        self.sets.outlets
+        self.sets.words.len()
     }
 
     fn reset(&mut self) {
