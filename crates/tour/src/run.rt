@@ -39,9 +39,8 @@ pub(crate) fn load_pattern(rt: &HostRuntime) -> anyhow::Result<Loaded> {
 // Shows the response of the logic, position by position.
 pub(crate) fn show_response(rt: &HostRuntime) -> anyhow::Result<()> {
     println!(rt; "\nThe logic answers; X is unknown. Chains are written from number 0 on:")?;
-    for position in 0..2 {
-        let pair = (VALUES[position], UNKNOWNS[position]);
-        let text = pair_digits(rt.alloc(), pair, 4)?;
+    for (position, (values, unknowns)) in VALUES.iter().zip(&UNKNOWNS).enumerate() {
+        let text = pair_digits(rt.alloc(), (*values, *unknowns), 4)?;
         println!(rt; "  position {position}: {text}")?;
     }
     Ok(())
@@ -59,14 +58,12 @@ pub(crate) fn unload_response(rt: &HostRuntime, loaded: Loaded) -> anyhow::Resul
         let text = pair_digits(rt.alloc(), pair, 4)?;
         println!(rt; "  unload cycle {cycle}: {text}")?;
     }
-    match captured.unload(&VALUES, &UNKNOWNS) {
-        Ok(_) => Err(anyhow!("there was a third unload cycle")),
-        Err(refusal) => {
-            println!(rt;
-                "  unload cycle 3: refused with number {}: {refusal}",
-                refusal.number()
-            )?;
-            Ok(())
-        }
-    }
+    let Err(refusal) = captured.unload(&VALUES, &UNKNOWNS) else {
+        return Err(anyhow!("there was a third unload cycle"));
+    };
+    println!(rt;
+        "  unload cycle 3: refused with number {}: {refusal}",
+        refusal.number()
+    )?;
+    Ok(())
 }

@@ -1,10 +1,14 @@
-use Rattle.std.proofs.Common.{◌∙◌, ap₂}
+use Rattle.std.proofs.Common.{refl, rules, arith}
+use Rattle.std.proofs.lemmas.Iterator.{YieldsList-from_map, YieldsList-from_range}
 use Rattle.bits.specs.Words.{bit_of}
 use Rattle.tour.specs.Marks.{mark_of}
-use Rattle.tour.proofs.Texts.{mark_more}
+use Rattle.tour.proofs.Texts.{text_of, mark_small}
 use Rattle.tour.proofs.digits.pair_digits.Goals as goal
 
-pub loop-place-preserved : goal.loop-place-preserved
-loop-place-preserved c =
-    mark_more _ _ _ c.mark.result c.push.ensures.ascii c.in_ok-push.ensures.bytes c.loop-place.place
-    (bit_of c.args.pair.0) (bit_of c.args.pair.1) c.loop-place.invariant (c.mark.ensures ∙ ap₂ mark_of c.has.ensures c.has-in-loop-place.ensures)
+pub returns : goal.returns
+returns c =
+    let n = c.args.count in
+    let values = bit_of c.args.pair.0 in
+    let unknowns = bit_of c.args.pair.1 in
+    text_of (λ p. mark_of (unknowns p) (values p)) _ _ (λ p. mark_small (unknowns p) (values p)) refl c.collect.ensures.ran
+    (YieldsList-from_map _ _ (YieldsList-from_range 0 n n (cc) (omega arith)) c.map.ensures.closure (λ x r q k. search rules))
