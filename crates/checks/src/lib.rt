@@ -2,8 +2,12 @@
 #![tactic(auto)]
 
 #[cfg(test)]
+mod common;
+#[cfg(test)]
 mod makers;
 #[cfg(test)]
 mod runs;
 #[cfg(test)]
 mod shifts;
+#[cfg(test)]
+mod short_lists;

@@ -1,24 +1,16 @@
 // Registers and layers at the limits of their rules.
+use crate::common::number;
 use layers::PhaseShifter;
 use machine::Machine;
-use refusals::Refusal;
 use registers::{GaloisRegister, Link, RingGenerator};
 use std::process::Abort;
 use std::test::Fail;
 
-// The number of a refusal, and 0 where there is none.
-fn number<T: Drop>(made: Result<T, Refusal>) -> u8 {
-    match made {
-        Ok(_) => 0,
-        Err(refusal) => refusal.number(),
-    }
-}
-
-fn galois(size: usize, taps: &[usize], inlets: &[usize]) -> u8 {
+fn galois(size: usize, taps: &[usize], inlets: &[usize]) -> Option<u8> {
     number(GaloisRegister::new(size, taps, inlets))
 }
 
-fn ring(size: usize, links: &[Link], inlets: &[usize]) -> u8 {
+fn ring(size: usize, links: &[Link], inlets: &[usize]) -> Option<u8> {
     number(RingGenerator::new(size, links, inlets))
 }
 
@@ -28,40 +20,47 @@ fn link(from: usize, to: usize) -> Link {
 
 #[test]
 fn sizes_from_2_to_64(rt: HostRuntime) {
-    assert_eq!(rt; galois(1, &[], &[0]), 7);
-    assert_eq!(rt; galois(2, &[1], &[1]), 0);
-    assert_eq!(rt; galois(64, &[63], &[63]), 0);
-    assert_eq!(rt; galois(65, &[], &[0]), 7);
-    assert_eq!(rt; ring(1, &[], &[0]), 7);
-    assert_eq!(rt; ring(2, &[link(0, 0)], &[1]), 0);
-    assert_eq!(rt; ring(64, &[link(63, 63)], &[63]), 0);
-    assert_eq!(rt; ring(65, &[], &[0]), 7);
+    assert_eq!(rt; galois(1, &[], &[0]), Some(7));
+    assert_eq!(rt; galois(2, &[1], &[1]), None);
+    assert_eq!(rt; galois(64, &[63], &[63]), None);
+    assert_eq!(rt; galois(65, &[], &[0]), Some(7));
+    assert_eq!(rt; ring(1, &[], &[0]), Some(7));
+    assert_eq!(rt; ring(2, &[link(0, 0)], &[1]), None);
+    assert_eq!(rt; ring(64, &[link(63, 63)], &[63]), None);
+    assert_eq!(rt; ring(65, &[], &[0]), Some(7));
 }
 
 #[test]
 fn taps_from_1_to_the_last_cell(rt: HostRuntime) {
-    assert_eq!(rt; galois(4, &[0], &[0]), 7);
-    assert_eq!(rt; galois(4, &[1, 2, 3], &[0]), 0);
-    assert_eq!(rt; galois(4, &[4], &[0]), 7);
-    assert_eq!(rt; galois(4, &[2, 2], &[0]), 8);
-    assert_eq!(rt; galois(4, &[2, 2, 4], &[0]), 8, "the first fault counts");
+    assert_eq!(rt; galois(4, &[0], &[0]), Some(7));
+    assert_eq!(rt; galois(4, &[1, 2, 3], &[0]), None);
+    assert_eq!(rt; galois(4, &[4], &[0]), Some(7));
+    assert_eq!(rt; galois(4, &[2, 2], &[0]), Some(8));
+    assert_eq!(rt;
+        galois(4, &[2, 2, 4], &[0]),
+        Some(8),
+        "the first fault counts"
+    );
 }
 
 #[test]
 fn no_link_to_the_next_cell(rt: HostRuntime) {
-    assert_eq!(rt; ring(4, &[link(1, 2)], &[0]), 7);
+    assert_eq!(rt; ring(4, &[link(1, 2)], &[0]), Some(7));
     assert_eq!(rt;
         ring(4, &[link(3, 0)], &[0]),
-        7,
+        Some(7),
         "the next cell of the last is cell 0"
     );
-    assert_eq!(rt; ring(4, &[link(2, 2)], &[0]), 0, "from a cell to itself");
-    assert_eq!(rt; ring(4, &[link(4, 0)], &[0]), 7);
-    assert_eq!(rt; ring(4, &[link(0, 4)], &[0]), 7);
-    assert_eq!(rt; ring(4, &[link(0, 3), link(3, 1), link(0, 3)], &[0]), 8);
+    assert_eq!(rt; ring(4, &[link(2, 2)], &[0]), None, "from a cell to itself");
+    assert_eq!(rt; ring(4, &[link(4, 0)], &[0]), Some(7));
+    assert_eq!(rt; ring(4, &[link(0, 4)], &[0]), Some(7));
+    assert_eq!(rt;
+        ring(4, &[link(0, 3), link(3, 1), link(0, 3)], &[0]),
+        Some(8)
+    );
     assert_eq!(rt;
         ring(4, &[link(0, 3), link(0, 3), link(0, 1)], &[]),
-        8,
+        Some(8),
         "the first fault counts"
     );
 }
@@ -77,18 +76,18 @@ fn fan_out(links: &mut [Link]) {
 fn at_most_16_links(rt: HostRuntime) {
     let mut links = [link(0, 2); 17];
     fan_out(&mut links);
-    assert_eq!(rt; ring(64, &links[0..16], &[0]), 0);
-    assert_eq!(rt; ring(64, &links[0..17], &[0]), 9);
+    assert_eq!(rt; ring(64, &links[0..16], &[0]), None);
+    assert_eq!(rt; ring(64, &links[0..17], &[0]), Some(9));
     links[16].to = 2;
     assert_eq!(rt;
         ring(64, &links[0..17], &[0]),
-        8,
+        Some(8),
         "a 17th link that is given again"
     );
     links[16].to = 1;
     assert_eq!(rt;
         ring(64, &links[0..17], &[0]),
-        7,
+        Some(7),
         "a 17th link to the next cell"
     );
 }
@@ -96,29 +95,29 @@ fn at_most_16_links(rt: HostRuntime) {
 #[test]
 fn from_1_to_64_channels(rt: HostRuntime) {
     let cells = [1; 65];
-    assert_eq!(rt; galois(2, &[], &[]), 7);
-    assert_eq!(rt; galois(2, &[], &cells[0..1]), 0);
-    assert_eq!(rt; galois(2, &[], &cells[0..64]), 0);
-    assert_eq!(rt; galois(2, &[], &cells[0..65]), 7);
-    assert_eq!(rt; ring(2, &[], &[]), 7);
-    assert_eq!(rt; ring(2, &[], &cells[0..64]), 0);
-    assert_eq!(rt; ring(2, &[], &cells[0..65]), 7);
-    assert_eq!(rt; ring(2, &[], &[2]), 7);
+    assert_eq!(rt; galois(2, &[], &[]), Some(7));
+    assert_eq!(rt; galois(2, &[], &cells[0..1]), None);
+    assert_eq!(rt; galois(2, &[], &cells[0..64]), None);
+    assert_eq!(rt; galois(2, &[], &cells[0..65]), Some(7));
+    assert_eq!(rt; ring(2, &[], &[]), Some(7));
+    assert_eq!(rt; ring(2, &[], &cells[0..64]), None);
+    assert_eq!(rt; ring(2, &[], &cells[0..65]), Some(7));
+    assert_eq!(rt; ring(2, &[], &[2]), Some(7));
 }
 
-// The number of a shifter's refusal, after a look at the machine that is handed back: its cells are as they were.
-fn shifter(rt: &impl Abort, sets: &[u64]) -> Result<u8, Fail> {
+// The number of a shifter's refusal, if it is refused, after a look at the machine that is handed back: its cells are as they were.
+fn shifter(rt: &impl Abort, sets: &[u64]) -> Result<Option<u8>, Fail> {
     let mut below = GaloisRegister::new(4, &[1], &[0])?;
     below.shift(1);
     match PhaseShifter::new(below, sets) {
         Ok(pile) => {
             assert_eq!(rt; pile.outlets(), sets.len());
             assert_eq!(rt; pile.read(), 0, "outlet 63 is missing below");
-            Ok(0)
+            Ok(None)
         }
         Err(back) => {
-            assert_eq!(rt; back.0.read(), 1);
-            Ok(back.1.number())
+            assert_eq!(rt; back.value.read(), 1);
+            Ok(Some(back.refusal.number()))
         }
     }
 }
@@ -126,10 +125,10 @@ fn shifter(rt: &impl Abort, sets: &[u64]) -> Result<u8, Fail> {
 #[test]
 fn from_1_to_64_outlets_each_with_a_set(rt: HostRuntime) -> Result<(), Fail> {
     let sets = [1 << 63; 65];
-    assert_eq!(rt; shifter(&rt, &[])?, 7);
-    assert_eq!(rt; shifter(&rt, &sets[0..1])?, 0);
-    assert_eq!(rt; shifter(&rt, &sets[0..64])?, 0);
-    assert_eq!(rt; shifter(&rt, &sets[0..65])?, 7);
-    assert_eq!(rt; shifter(&rt, &[1, 0, 1])?, 7, "an empty set");
+    assert_eq!(rt; shifter(&rt, &[])?, Some(7));
+    assert_eq!(rt; shifter(&rt, &sets[0..1])?, None);
+    assert_eq!(rt; shifter(&rt, &sets[0..64])?, None);
+    assert_eq!(rt; shifter(&rt, &sets[0..65])?, Some(7));
+    assert_eq!(rt; shifter(&rt, &[1, 0, 1])?, Some(7), "an empty set");
     Ok(())
 }

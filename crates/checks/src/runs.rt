@@ -1,60 +1,50 @@
 // Test runs at the limits of their frames, and what refusals leave.
+use crate::common::{number, ring_of_four};
 use machine::Machine;
 use patterns::replay;
 use refusals::Refusal;
-use registers::{GaloisRegister, Link, RingGenerator};
+use registers::GaloisRegister;
 use scan::{CareBit, Frame, Loaded, Loading};
 use std::process::Abort;
 use std::test::Fail;
-
-// The number of a refusal, and 0 where there is none.
-fn number<T: Drop>(answer: Result<T, Refusal>) -> u8 {
-    match answer {
-        Ok(_) => 0,
-        Err(refusal) => refusal.number(),
-    }
-}
-
-fn ring_of_four() -> Result<RingGenerator, Refusal> {
-    RingGenerator::new(4, &[Link { from: 0, to: 3 }], &[0])
-}
 
 // A register of two cells with as many channels as there are cells in the list.
 fn galois(inlets: &[usize]) -> Result<GaloisRegister, Refusal> {
     GaloisRegister::new(2, &[1], inlets)
 }
 
-// The number with which a start is refused, 0 if it is not. A refused start leaves cells and memory as they were; one that is not leaves them
-// 0, words past the positions apart.
+// The number with which a start is refused, if it is. A refused start leaves cells and memory as they were; one that is not leaves them 0,
+// words past the positions apart.
 fn start<M: Machine>(
     rt: &impl Abort,
     machine: &mut M,
     warmup: usize,
     shifts: usize,
     words: &mut [u64],
-) -> u8 {
+) -> Option<u8> {
     machine.reset();
     machine.shift(1);
     let cells = machine.read();
     words.fill(7);
-    let answer = number(Loading::start(machine, Frame { warmup, shifts }, words));
-    assert_eq!(rt; machine.read(), if answer == 0 { 0 } else { cells });
+    let refused = number(Loading::start(machine, Frame { warmup, shifts }, words));
+    let started = refused.is_none();
+    assert_eq!(rt; machine.read(), if started { 0 } else { cells });
     for (p, word) in words.iter().enumerate() {
-        assert_eq!(rt; *word, if answer == 0 && p < shifts { 0 } else { 7 });
+        assert_eq!(rt; *word, if started && p < shifts { 0 } else { 7 });
     }
-    answer
+    refused
 }
 
 #[test]
 fn limits_of_a_frame(rt: HostRuntime) -> Result<(), Fail> {
     let mut ring = ring_of_four()?;
     let mut words = [0; 258];
-    assert_eq!(rt; start(&rt, &mut ring, 0, 1, &mut words), 0);
-    assert_eq!(rt; start(&rt, &mut ring, 64, 1, &mut words), 0);
-    assert_eq!(rt; start(&rt, &mut ring, 65, 1, &mut words), 7);
-    assert_eq!(rt; start(&rt, &mut ring, 0, 0, &mut words), 7);
-    assert_eq!(rt; start(&rt, &mut ring, 0, 256, &mut words), 0);
-    assert_eq!(rt; start(&rt, &mut ring, 0, 257, &mut words), 7);
+    assert_eq!(rt; start(&rt, &mut ring, 0, 1, &mut words), None);
+    assert_eq!(rt; start(&rt, &mut ring, 64, 1, &mut words), None);
+    assert_eq!(rt; start(&rt, &mut ring, 65, 1, &mut words), Some(7));
+    assert_eq!(rt; start(&rt, &mut ring, 0, 0, &mut words), Some(7));
+    assert_eq!(rt; start(&rt, &mut ring, 0, 256, &mut words), None);
+    assert_eq!(rt; start(&rt, &mut ring, 0, 257, &mut words), Some(7));
     Ok(())
 }
 
@@ -62,89 +52,85 @@ fn limits_of_a_frame(rt: HostRuntime) -> Result<(), Fail> {
 fn at_most_256_bits(rt: HostRuntime) -> Result<(), Fail> {
     let mut words = [0; 256];
     let mut one = galois(&[0])?;
-    assert_eq!(rt; start(&rt, &mut one, 0, 256, &mut words), 0);
-    assert_eq!(rt; start(&rt, &mut one, 1, 256, &mut words), 9);
+    assert_eq!(rt; start(&rt, &mut one, 0, 256, &mut words), None);
+    assert_eq!(rt; start(&rt, &mut one, 1, 256, &mut words), Some(9));
     let mut two = galois(&[0, 1])?;
-    assert_eq!(rt; start(&rt, &mut two, 64, 64, &mut words), 0);
-    assert_eq!(rt; start(&rt, &mut two, 64, 65, &mut words), 9);
+    assert_eq!(rt; start(&rt, &mut two, 64, 64, &mut words), None);
+    assert_eq!(rt; start(&rt, &mut two, 64, 65, &mut words), Some(9));
     let mut many = galois(&[1; 64])?;
-    assert_eq!(rt; start(&rt, &mut many, 3, 1, &mut words), 0);
-    assert_eq!(rt; start(&rt, &mut many, 3, 2, &mut words), 9);
+    assert_eq!(rt; start(&rt, &mut many, 3, 1, &mut words), None);
+    assert_eq!(rt; start(&rt, &mut many, 3, 2, &mut words), Some(9));
     Ok(())
 }
 
 #[test]
 fn memory_for_each_position(rt: HostRuntime) -> Result<(), Fail> {
     let mut ring = ring_of_four()?;
-    assert_eq!(rt; start(&rt, &mut ring, 2, 2, &mut [0; 1]), 13);
-    assert_eq!(rt; start(&rt, &mut ring, 2, 2, &mut [0; 2]), 0);
-    assert_eq!(rt; start(&rt, &mut ring, 2, 2, &mut [0; 3]), 0);
+    assert_eq!(rt; start(&rt, &mut ring, 2, 2, &mut [0; 1]), Some(13));
+    assert_eq!(rt; start(&rt, &mut ring, 2, 2, &mut [0; 2]), None);
+    assert_eq!(rt; start(&rt, &mut ring, 2, 2, &mut [0; 3]), None);
     assert_eq!(rt;
         start(&rt, &mut ring, 65, 2, &mut [0; 1]),
-        7,
+        Some(7),
         "the frame goes before the memory"
     );
     assert_eq!(rt;
         start(&rt, &mut ring, 1, 256, &mut [0; 1]),
-        9,
+        Some(9),
         "the bits go before the memory"
     );
     Ok(())
 }
 
-// The number with which a replay is refused; a refused one leaves cells and memory as they were.
+// The number with which a replay is refused, if it is; a refused one leaves cells and memory as they were.
 fn replayed(
     rt: &impl Abort,
     warmup: usize,
     shifts: usize,
     digits: &[u8],
     words: &mut [u64],
-) -> Result<u8, Fail> {
+) -> Result<Option<u8>, Fail> {
     let mut ring = ring_of_four()?;
     ring.shift(1);
     words.fill(7);
-    let answer = number(replay(&mut ring, Frame { warmup, shifts }, digits, words));
-    if answer != 0 {
+    let refused = number(replay(&mut ring, Frame { warmup, shifts }, digits, words));
+    if refused.is_some() {
         assert_eq!(rt; ring.read(), 1);
-        for word in words.iter() {
-            assert_eq!(rt; *word, 7);
-        }
+        assert!(rt; words.iter().all(|word| *word == 7));
     }
-    Ok(answer)
+    Ok(refused)
 }
 
 #[test]
 fn refusals_of_a_pattern(rt: HostRuntime) -> Result<(), Fail> {
     let mut words = [0; 3];
-    assert_eq!(rt; replayed(&rt, 2, 2, b"0011", &mut words)?, 0);
-    assert_eq!(rt; replayed(&rt, 2, 2, b"001", &mut words)?, 7);
-    assert_eq!(rt; replayed(&rt, 2, 2, b"00110", &mut words)?, 7);
-    assert_eq!(rt; replayed(&rt, 65, 1, b"0011", &mut words)?, 7);
-    assert_eq!(rt; replayed(&rt, 2, 0, b"00", &mut words)?, 7);
-    assert_eq!(rt; replayed(&rt, 0, 257, &[b'0'; 257], &mut words)?, 7);
-    assert_eq!(rt; replayed(&rt, 1, 256, &[b'0'; 257], &mut words)?, 9);
+    assert_eq!(rt; replayed(&rt, 2, 2, b"0011", &mut words)?, None);
+    assert_eq!(rt; replayed(&rt, 2, 2, b"001", &mut words)?, Some(7));
+    assert_eq!(rt; replayed(&rt, 2, 2, b"00110", &mut words)?, Some(7));
+    assert_eq!(rt; replayed(&rt, 65, 1, b"0011", &mut words)?, Some(7));
+    assert_eq!(rt; replayed(&rt, 2, 0, b"00", &mut words)?, Some(7));
+    assert_eq!(rt; replayed(&rt, 0, 257, &[b'0'; 257], &mut words)?, Some(7));
+    assert_eq!(rt; replayed(&rt, 1, 256, &[b'0'; 257], &mut words)?, Some(9));
     assert_eq!(rt;
         replayed(&rt, 1, 256, &[b'0'; 256], &mut words)?,
-        7,
+        Some(7),
         "the count goes before the bits"
     );
     assert_eq!(rt;
         replayed(&rt, 0, 4, b"0012", &mut words)?,
-        13,
+        Some(13),
         "the memory goes before a digit"
     );
-    assert_eq!(rt; replayed(&rt, 2, 2, b"0012", &mut words)?, 5);
-    assert_eq!(rt; replayed(&rt, 2, 2, b"/011", &mut words)?, 5);
+    assert_eq!(rt; replayed(&rt, 2, 2, b"0012", &mut words)?, Some(5));
+    assert_eq!(rt; replayed(&rt, 2, 2, b"/011", &mut words)?, Some(5));
     Ok(())
 }
 
 // The word of one cycle, from a digit for each channel.
 fn word(digits: &[u8]) -> u64 {
-    let mut word = 0u64;
-    for digit in digits.iter().rev() {
-        word = word << 1 | (*digit == b'1') as u64;
-    }
-    word
+    digits
+        .iter()
+        .rfold(0u64, |word, digit| word << 1 | (*digit == b'1') as u64)
 }
 
 // Shifts a run by hand, a word a cycle, and closes it.
@@ -177,17 +163,17 @@ fn both_ways<M: Machine>(rt: &impl Abort, machine: &mut M, shifts: usize, digits
     let frame = Frame { warmup: 0, shifts };
     let mut replayed = [5; 257];
     let mut shifted = [u64::MAX; 257];
-    assert_eq!(rt; number(replay(machine, frame, digits, &mut replayed)), 0);
+    assert_eq!(rt; number(replay(machine, frame, digits, &mut replayed)), None);
     assert_eq!(rt;
         replayed[0],
         machine.read(),
         "position 0 has the last outlets"
     );
-    assert_eq!(rt; number(by_hand(machine, frame, digits, &mut shifted)), 0);
-    for p in 0..257 {
+    assert_eq!(rt; number(by_hand(machine, frame, digits, &mut shifted)), None);
+    for (p, (replayed, shifted)) in replayed.iter().zip(&shifted).enumerate() {
         let past = p >= shifts;
-        assert_eq!(rt; replayed[p], if past { 5 } else { shifted[p] });
-        assert_eq!(rt; past, shifted[p] == u64::MAX);
+        assert_eq!(rt; *replayed, if past { 5 } else { *shifted });
+        assert_eq!(rt; past, *shifted == u64::MAX);
     }
 }
 
@@ -209,21 +195,19 @@ fn by_hand_and_replayed_on_two_channels(rt: HostRuntime) -> Result<(), Fail> {
     Ok(())
 }
 
-// The number with which a shift is refused; a refused one leaves cells and memory as they were.
+// The number with which a shift is refused, if it is; a refused one leaves cells and memory as they were.
 fn refused_shift<M: Machine>(
     rt: &impl Abort,
     run: &mut Loading,
     machine: &mut M,
     words: &mut [u64],
-) -> u8 {
+) -> Option<u8> {
     let cells = machine.read();
     words.fill(9);
-    let answer = number(run.shift(machine, 1, words));
+    let refused = number(run.shift(machine, 1, words));
     assert_eq!(rt; machine.read(), cells);
-    for word in words.iter() {
-        assert_eq!(rt; *word, 9);
-    }
-    answer
+    assert!(rt; words.iter().all(|word| *word == 9));
+    refused
 }
 
 // A run of one warm-up cycle and two shift cycles, over memory that is not clean.
@@ -249,15 +233,18 @@ fn cycles_one_by_one(rt: HostRuntime) -> Result<(), Fail> {
     let mut fewer_outlets = galois(&[0])?;
     assert_eq!(rt;
         refused_shift(&rt, &mut run, &mut fewer_outlets, &mut [0; 1]),
-        7,
+        Some(7),
         "before the memory"
     );
     let mut more_channels = GaloisRegister::new(4, &[], &[0, 1])?;
     assert_eq!(rt;
         refused_shift(&rt, &mut run, &mut more_channels, &mut [0; 2]),
-        7
+        Some(7)
     );
-    assert_eq!(rt; refused_shift(&rt, &mut run, &mut ring, &mut [0; 1]), 13);
+    assert_eq!(rt;
+        refused_shift(&rt, &mut run, &mut ring, &mut [0; 1]),
+        Some(13)
+    );
     let mut run = match run.close() {
         Ok(_) => return Err(Fail::new("closed with a cycle left")),
         Err(back) => {
@@ -268,10 +255,13 @@ fn cycles_one_by_one(rt: HostRuntime) -> Result<(), Fail> {
     run.shift(&mut ring, 0, &mut words)?;
     assert_eq!(rt; words[0], ring.read());
     assert_eq!(rt; words[1], 0b1011);
-    assert_eq!(rt; refused_shift(&rt, &mut run, &mut ring, &mut [0; 2]), 14);
+    assert_eq!(rt;
+        refused_shift(&rt, &mut run, &mut ring, &mut [0; 2]),
+        Some(14)
+    );
     assert_eq!(rt;
         refused_shift(&rt, &mut run, &mut ring, &mut [0; 1]),
-        13,
+        Some(13),
         "the memory goes before the cycles"
     );
     assert!(rt; run.close().is_ok());
@@ -297,8 +287,8 @@ fn unloading_from_the_top(rt: HostRuntime) -> Result<(), Fail> {
         Ok(captured) => captured,
         Err(_) => return Err(Fail::new("not captured")),
     };
-    assert_eq!(rt; number(captured.unload(&[1], &[0, 0])), 13);
-    assert_eq!(rt; number(captured.unload(&[1, 2], &[0])), 13);
+    assert_eq!(rt; number(captured.unload(&[1], &[0, 0])), Some(13));
+    assert_eq!(rt; number(captured.unload(&[1, 2], &[0])), Some(13));
     assert_eq!(rt;
         captured.unload(&[0b10001, 0b11111], &[0, 0b10100])?,
         (0b1011, 0b0100)
@@ -307,8 +297,8 @@ fn unloading_from_the_top(rt: HostRuntime) -> Result<(), Fail> {
         captured.unload(&[0b10001, 0b11111], &[0, 0b10100])?,
         (0b0001, 0)
     );
-    assert_eq!(rt; number(captured.unload(&[1, 2], &[0, 0])), 14);
-    assert_eq!(rt; number(captured.unload(&[1], &[0, 0])), 13);
+    assert_eq!(rt; number(captured.unload(&[1, 2], &[0, 0])), Some(14));
+    assert_eq!(rt; number(captured.unload(&[1], &[0, 0])), Some(13));
     Ok(())
 }
 
@@ -327,7 +317,7 @@ fn unloading_256_positions(rt: HostRuntime) -> Result<(), Fail> {
     for _ in 0..256 {
         assert_eq!(rt; captured.unload(&[3; 256], &[1; 256])?, (2, 1));
     }
-    assert_eq!(rt; number(captured.unload(&[3; 256], &[1; 256])), 14);
+    assert_eq!(rt; number(captured.unload(&[3; 256], &[1; 256])), Some(14));
     Ok(())
 }
 

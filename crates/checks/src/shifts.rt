@@ -1,6 +1,8 @@
 // Registers and piles of layers as they shift.
+use crate::common::ring_of_four;
 use layers::{Delay, PhaseShifter};
 use machine::{Machine, cycle};
+use refusals::Refusal;
 use registers::{GaloisRegister, Link, RingGenerator};
 use std::process::Abort;
 use std::test::Fail;
@@ -37,14 +39,11 @@ fn galois_of_three_cells(rt: HostRuntime) -> Result<(), Fail> {
 fn primitive_polynomial_has_the_longest_period(rt: HostRuntime) -> Result<(), Fail> {
     let mut register = GaloisRegister::new(4, &[1], &[0])?;
     register.shift(1);
-    let mut period = 0u32;
-    for k in 1..16 {
+    let period = (1..16).find(|_| {
         register.shift(0);
-        if register.read() == 1 && period == 0 {
-            period = k;
-        }
-    }
-    assert_eq!(rt; period, 15);
+        register.read() == 1
+    });
+    assert_eq!(rt; period, Some(15));
     Ok(())
 }
 
@@ -96,14 +95,11 @@ fn tap_at_the_last_of_64_cells(rt: HostRuntime) -> Result<(), Fail> {
 
 #[test]
 fn ring_under_a_shifter_under_a_delay(rt: HostRuntime) -> Result<(), Fail> {
-    let ring = RingGenerator::new(4, &[Link { from: 0, to: 3 }], &[0])?;
-    match PhaseShifter::new(ring, &[0b001, 0b110]) {
-        Ok(shifter) => shows(
-            &rt,
-            &mut Delay::new(shifter),
-            &[1, 0, 0, 0, 0],
-            &[0b00, 0b01, 0b10, 0b11, 0b10],
-        ),
-        Err(back) => Err(back.1.into()),
-    }
+    let shifter = PhaseShifter::new(ring_of_four()?, &[0b001, 0b110]).map_err(Refusal::from)?;
+    shows(
+        &rt,
+        &mut Delay::new(shifter),
+        &[1, 0, 0, 0, 0],
+        &[0b00, 0b01, 0b10, 0b11, 0b10],
+    )
 }
