@@ -17,6 +17,9 @@ pub type RingGenerator = Register<Links>;
 impl RingGenerator {
     // A register at reset, from its lines: the refusal is the first that reading them one by one meets, and there is one exactly
     // where the lines are not allowed.
+    //
+    // Each register has a `new` of its own, with the theorem of its own lines. One for both was tried: `Turns` would have to say what a part has
+    // read, a ghost type of `Gathers`, and a trait has those of a supertrait at hand in its laws alone.
     #[tactic(auto, using(crate::proofs::Exactly::ring_exactly))]
     pub fn new(size: usize, links: &[Link], inlets: &[usize]) -> Result<RingGenerator, Refusal>
         ensures made { ok_map register_state result ≡ ok_map at_reset (ring_from size links.now inlets.now) }

@@ -9,7 +9,7 @@ use lists::ShortList;
 use refusals::{Gathers, Refusal};
 
 impl Inlets {
-    // No inlet yet, for a register of that size.
+    // No inlet yet, for a register of that size. Each part says itself how it is empty: a maker for all would take that as a closure.
     pub fn new(size: usize) -> Result<Inlets, Refusal>
         ensures { ok_map inlets_read result ≡ no_inlets size }
     {
