@@ -1,18 +1,14 @@
 -- What a line answers where its conditions hold.
-use Rattle.std.proofs.Common.{◌≡◌, ℕ, ◌<◌, ◌≤◌, Bool, true, false, ◌||◌, eqb, ltb, leb, cond, ◌⊎◌, List, [], ◌∷◌, ◌++◌, length, get_or, Ok, Err, sym, refl, ap, ◌∙◌, subst, inl, inr, arith}
+use Rattle.std.proofs.Common.{◌≡◌, ℕ, ◌<◌, ◌≤◌, Bool, true, false, ◌||◌, eqb, ltb, leb, cond, ◌⊎◌, List, [], ◌∷◌, ◌++◌, length, get_or, Ok, sym, refl, ap, ◌∙◌, subst, inl, inr, arith}
 use mathlib.Core.Bool.{or-false}
 use Rattle.std.proofs.lemmas.List.{get_or_append_left, get_or_push, length-append}
 use Rattle.std.proofs.lemmas.List.Folds.{list_any_at, list_any-append}
-use Rattle.std.proofs.lemmas.Bool.{lt-leb, le-ltb, eq-eqb, ne_eqb, and_from, or_from, both_ways, cases_lt, cond-true, cond-false}
-use Rattle.refusals.specs.declared.Refusal.TheVariants.{Repeated}
+use Rattle.std.proofs.lemmas.Bool.{lt-leb, le-ltb, eq-eqb, ne_eqb, and_from, or_from, both_ways, cases_lt, cond-false}
 use Rattle.registers.specs.declared.Link.{Link}
 use Rattle.registers.specs.Rules.{TapsRead, with_tap, tap_line, InletsRead, with_inlet, inlet_line, LinksRead, with_link, link_line, Lawful, no_link, next_cell, same_link, is_linked}
 
 tap_in_range : (t : TapsRead) (tap : ℕ) → 1 ≤ tap → tap < t.size → (ltb tap 1 || leb t.size tap) ≡ false
 tap_in_range t tap low high = or_from _ _ (le-ltb tap 1 low) (lt-leb t.size tap high)
-
-pub tap_repeated : (t : TapsRead) (tap : ℕ) → 1 ≤ tap → tap < t.size → true ≡ t.tapped tap → tap_line t tap ≡ Err Repeated
-tap_repeated t tap low high e = cond-false _ _ _ (tap_in_range t tap low high) ∙ cond-true _ _ _ (sym e)
 
 pub tap_new : (t : TapsRead) (tap : ℕ) → 1 ≤ tap → tap < t.size → false ≡ t.tapped tap
     → tap_line t tap ≡ Ok (with_tap t tap)

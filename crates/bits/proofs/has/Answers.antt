@@ -1,10 +1,7 @@
 use Rattle.std.proofs.Common.{sym, ◌∙◌, arith}
 use Rattle.std.proofs.lemmas.Bool.{le-ltb}
-use Rattle.bits.proofs.Bitwise.{bit_test, bit_above}
+use Rattle.bits.proofs.Bitwise.{bit_above}
 use Rattle.bits.proofs.has.Goals as goal
-
-pub returns-then-place-lt64 : goal.returns-then-place-lt64
-returns-then-place-lt64 c = bit_test c.args.word c.args.place
 
 pub returns-else-place-lt64 : goal.returns-else-place-lt64
 returns-else-place-lt64 c =
