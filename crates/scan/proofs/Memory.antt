@@ -1,7 +1,6 @@
 -- Chain memory: its words one by one, and when it holds given chains.
-use Rattle.std.proofs.Common.{◌≡◌, ℕ, zero, suc, ◌+◌, ◌-◌, ◌^◌, ◌<◌, ◌≤◌, List, ◌∷◌, ◌++◌, length, get_or, drop, set, replicate, sym, refl, ap, ◌∙◌, subst, ap₂, inl, inr, add-one, arith}
-use Rattle.std.proofs.lemmas.List.{length-append, length-drop, length-set, get_or_append_left, get_or-append_right, get_or-drop, get_or-set_same, get_or-set_other, ext_get_or}
-use Rattle.std.proofs.lemmas.Bool.{cases_lt, cases_eq}
+use Rattle.std.proofs.Common.{◌≡◌, ℕ, zero, suc, ◌+◌, ◌-◌, ◌^◌, ◌<◌, ◌≤◌, List, ◌∷◌, [], ◌++◌, length, get_or, take, drop, set, replicate, sym, refl, ap, ◌∙◌, subst, ap₂, add-one, arith}
+use Rattle.std.proofs.lemmas.List.{length-append, length-drop, length-take-le, get_or-take, get_or_append_left, get_or-append_right, get_or-drop}
 use Rattle.bits.specs.Rows.{Row}
 use Rattle.bits.specs.Words.{bit_of, word_of}
 use Rattle.bits.proofs.Bitwise.{word_zeros, word_self, word_fits}
@@ -37,44 +36,23 @@ module _ (n c : ℕ) (h : Chains) (memory : List ℕ) (room : n ≤ length memor
       get_or-append_right (words_of n c h) (drop n memory) n p 0 (length_words n c h) l ∙ get_or-drop n memory (p - n) 0
       ∙ ap (λ (q : ℕ). get_or memory q 0) e
 
-  -- memory holds the chains if its words say so
-  pub holding_is : (words : List ℕ) → length words ≡ length memory → ((p : ℕ) → p < n → get_or words p 0 ≡ word_of c (h p))
-      → ((p : ℕ) → n ≤ p → get_or words p 0 ≡ get_or memory p 0) → words ≡ holding n c h memory
-  holding_is words long here past =
-      ext_get_or 0 words (holding n c h memory) (long ∙ sym length_holding) (λ p _.
-      elim (cases_lt p n) [ inl l ↦ here p l ∙ sym (holding_at p l) | inr l ↦ past p l ∙ sym (holding_past p l) ])
+-- what the next position takes is what stood where the chains are written next
+pub next_carried : (n m c : ℕ) (first : Row) (h : Chains) (memory : List ℕ) → m ≤ length memory → n < m
+    → word_of c (bit_of (get_or (holding n c h (take m memory)) n 0)) ≡ word_of c (moved_up first (chains_in memory) (n + 1))
+next_carried n m c first h memory room l =
+    let long = length-take-le m memory room in
+    ap (λ (w : ℕ). word_of c (bit_of w)) (holding_past n c h (take m memory) (omega arith) n (omega arith) ∙ get_or-take m memory n 0 l)
+    ∙ ap (λ (q : ℕ). word_of c (moved_up first (chains_in memory) q)) (sym (add-one n))
 
--- memory as it is while the chains h take the place of its first words: p positions are done
-pub record Moving (c : ℕ) (h : Chains) (memory words : List ℕ) (p : ℕ) : Type 0 where
-  pub long : length words ≡ length memory
-  pub done : (q : ℕ) → q < p → get_or words q 0 ≡ word_of c (h q)
-  pub left : (q : ℕ) → p ≤ q → get_or words q 0 ≡ get_or memory q 0
-
-pub moving_none : (c : ℕ) (h : Chains) (memory : List ℕ) → Moving c h memory memory 0
-moving_none c h memory = record { long = refl; done = λ q l. absurd (omega arith); left = λ q l. refl }
-
-pub moving_more : (c : ℕ) (h : Chains) (memory words : List ℕ) (p w : ℕ) → p < length memory → Moving c h memory words p → w ≡ word_of c (h p)
-    → Moving c h memory (set words p w) (p + 1)
-moving_more c h memory words p w room m e =
-    let long = m.long in
-    record {
-      long = length-set words p w ∙ m.long;
-      done = λ q l. elim (cases_eq q p) [
-        | inl z ↦ ap (λ (i : ℕ). get_or (set words p w) i 0) z ∙ get_or-set_same words p w 0 (omega arith) ∙ e ∙ ap (λ (i : ℕ). word_of c (h i)) (sym z)
-        | inr d ↦ get_or-set_other words p q w 0 d ∙ m.done q (omega arith)
-      ];
-      left = λ q l. get_or-set_other words p q w 0 (λ z. omega arith) ∙ m.left q (omega arith);
-    }
-
--- what a position gives up is what the next one takes
-pub next_entering : (c : ℕ) (first : Row) (memory words : List ℕ) (p : ℕ) → get_or words p 0 ≡ get_or memory p 0
-    → word_of c (bit_of (get_or words p 0)) ≡ word_of c (moved_up first (chains_in memory) (p + 1))
-next_entering c first memory words p e =
-    ap (λ (w : ℕ). word_of c (bit_of w)) e ∙ ap (λ (q : ℕ). word_of c (moved_up first (chains_in memory) q)) (sym (add-one p))
-
-pub moving_all : (c : ℕ) (h : Chains) (memory words : List ℕ) (p n : ℕ) → n ≤ length memory → p ≡ n → Moving c h memory words p → words ≡ holding n c h memory
-moving_all c h memory words p n room e m =
-    holding_is n c h memory room words m.long (λ q l. m.done q (omega arith)) (λ q l. m.left q (omega arith))
+-- one word more of the chains is written
+pub holding_more : (n c w : ℕ) (h : Chains) (memory : List ℕ) → n < length memory → w ≡ word_of c (h n)
+    → set (holding n c h memory) n w ≡ holding (n + 1) c h memory
+holding_more n c w h memory l is = go n h memory l is ∙ ap (λ (k : ℕ). holding k c h memory) (sym (add-one n))
+  where
+    go : (n : ℕ) (h : Chains) (memory : List ℕ) → n < length memory → w ≡ word_of c (h n) → set (holding n c h memory) n w ≡ holding (suc n) c h memory
+    go n h [] l is = absurd (omega arith)
+    go zero h (x ∷ memory) l is = ap (λ (v : ℕ). v ∷ memory) is
+    go (suc n) h (x ∷ memory) l is = ap (λ (ws : List ℕ). word_of c (h zero) ∷ ws) (go n (λ p. h (suc p)) memory (omega arith) is)
 
 -- only as many bits of what enters count as there are chains
 pub holding_entering : (n c : ℕ) (s t : Row) (h : Chains) (memory : List ℕ) → word_of c s ≡ word_of c t

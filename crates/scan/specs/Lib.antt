@@ -1,4 +1,5 @@
 pub mod Frames
+pub mod Fits
 pub mod Loads
 pub mod Memory
 pub mod Runs

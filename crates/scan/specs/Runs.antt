@@ -4,6 +4,7 @@ use Rattle.bits.specs.Rows.{Row, zeros}
 use Rattle.machine.specs.Linear.{Linear, shifted}
 use Rattle.refusals.specs.declared.Refusal.{Refusal}
 use Rattle.refusals.specs.declared.Refusal.TheVariants.{OutOfRange, NoCycleLeft, CyclesLeft}
+use Rattle.refusals.specs.declared.handed_back.HandedBack.{HandedBack}
 use Rattle.refusals.specs.Chains.{refused_if, ok_map, left_by}
 use Rattle.scan.specs.declared.frame.Frame.{Frame}
 use Rattle.scan.specs.declared.response.Loaded.{Loaded}
@@ -74,6 +75,6 @@ shifting m o word =
     (refused_if (nat_le (r.warmup + r.shifts) r.done) NoCycleLeft (Ok (one_more r, cycled m word r b))))
 
 -- closing, once all cycles are done; a refusal hands the run back
-abbrev pub closing : Run → Result Loaded (Run × Refusal)
+abbrev pub closing : Run → Result Loaded (HandedBack Run)
 closing r =
-    refused_if (nat_lt r.done (r.warmup + r.shifts)) (r, CyclesLeft) (Ok (record { positions = r.shifts; chains = r.outlets }))
+    refused_if (nat_lt r.done (r.warmup + r.shifts)) (record { value = r; refusal = CyclesLeft }) (Ok (record { positions = r.shifts; chains = r.outlets }))

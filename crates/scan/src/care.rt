@@ -17,11 +17,7 @@ impl CareBit {
     pub fn is_in(self, chains: &[u64]) -> bool
         ensures { result ≡ beq (chains_in chains.now self.position self.chain) self.value }
     {
-        let word = if self.position < chains.len() {
-            chains[self.position]
-        } else {
-            0
-        };
+        let word = chains.get(self.position).copied().unwrap_or(0);
         has(word, self.chain) == self.value
     }
 }

@@ -5,6 +5,7 @@ ghost use Rattle.scan.specs.Loads.{empty, moved_up};
 ghost use Rattle.scan.specs.Memory.{chains_in, holding};
 
 use bits::low;
+use std::mem;
 
 // Every position becomes 0, however many chains there are.
 pub(crate) fn clear(words: &mut [u64], positions: usize)
@@ -21,9 +22,7 @@ pub(crate) fn move_up(words: &mut [u64], positions: usize, chains: usize, enteri
     ensures { words.new ≡ holding positions chains (moved_up (bit_of entering) (chains_in words.old)) words.old }
 {
     let mut carried = entering;
-    for p in 0..positions {
-        let leaving = low(words[p], chains);
-        words[p] = carried;
-        carried = leaving;
+    for word in &mut words[..positions] {
+        carried = low(mem::replace(word, carried), chains);
     }
 }

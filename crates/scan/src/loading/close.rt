@@ -5,19 +5,22 @@ ghost use Rattle.scan.specs.Views.{run_of};
 
 use crate::loading::Loading;
 use crate::response::Loaded;
-use refusals::Refusal;
+use refusals::{HandedBack, Refusal};
 
 impl Loading {
     // Ends the loading once all cycles are done; a refusal hands the run back.
-    pub fn close(self) -> Result<Loaded, (Loading, Refusal)>
-        ensures { result_map_both (λ loaded. loaded) (λ back. (run_of back.0, back.1)) result ≡ closing (run_of self) }
+    pub fn close(self) -> Result<Loaded, HandedBack<Loading>>
+        ensures { result_map_both (λ loaded. loaded) (λ back. record { value = run_of back.value; refusal = back.refusal }) result ≡ closing (run_of self) }
     {
-        if self.done < self.warmup + self.shifts {
-            return Err((self, Refusal::CyclesLeft));
+        if self.done < self.fit.cycles() {
+            return Err(HandedBack {
+                value: self,
+                refusal: Refusal::CyclesLeft,
+            });
         }
         Ok(Loaded {
-            positions: self.shifts,
-            chains: self.outlets,
+            positions: self.fit.frame.shifts,
+            chains: self.fit.outlets,
         })
     }
 }

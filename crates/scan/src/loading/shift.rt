@@ -21,19 +21,20 @@ impl Loading {
         ensures answer { result ≡ answer_of (shifting (M.meaning machine.old) (underway (run_of self.old) (M.cells machine.old) chains.old) word) }
         ensures after { underway (run_of self.new) (M.cells machine.new) chains.new ≡ left_by (underway (run_of self.old) (M.cells machine.old) chains.old) (shifting (M.meaning machine.old) (underway (run_of self.old) (M.cells machine.old) chains.old) word) }
     {
-        if machine.channels() != self.channels || machine.outlets() != self.outlets {
+        let fit = self.fit;
+        if !fit.suits(machine) {
             return Err(Refusal::OutOfRange);
         }
-        if chains.len() < self.shifts {
+        if chains.len() < fit.frame.shifts {
             return Err(Refusal::MemoryTooShort);
         }
-        if self.done >= self.warmup + self.shifts {
+        if self.done >= fit.cycles() {
             return Err(Refusal::NoCycleLeft);
         }
         machine.shift(word);
         self.done += 1;
-        if self.done > self.warmup {
-            move_up(chains, self.shifts, self.outlets, machine.read());
+        if self.done > fit.frame.warmup {
+            move_up(chains, fit.frame.shifts, fit.outlets, machine.read());
         }
         Ok(())
     }

@@ -4,6 +4,7 @@ ghost use Rattle.scan.specs.Runs.{bench, starting, answered, bench_after};
 ghost use Rattle.scan.specs.Views.{run_of};
 
 use crate::chains::clear;
+use crate::fit::Fit;
 use crate::frame::Frame;
 use crate::loading::Loading;
 use machine::Machine;
@@ -20,19 +21,12 @@ impl Loading {
         ensures answer { ok_map run_of result ≡ answered (starting (M.meaning machine.old) frame (bench (M.cells machine.old) chains.old)) }
         ensures after { bench (M.cells machine.new) chains.new ≡ bench_after (bench (M.cells machine.old) chains.old) (starting (M.meaning machine.old) frame (bench (M.cells machine.old) chains.old)) }
     {
-        let channels = machine.channels();
-        frame.check(channels)?;
+        let fit = Fit::of(machine, frame)?;
         if chains.len() < frame.shifts {
             return Err(Refusal::MemoryTooShort);
         }
         machine.reset();
         clear(chains, frame.shifts);
-        Ok(Loading {
-            warmup: frame.warmup,
-            shifts: frame.shifts,
-            channels,
-            outlets: machine.outlets(),
-            done: 0,
-        })
+        Ok(Loading { fit, done: 0 })
     }
 }

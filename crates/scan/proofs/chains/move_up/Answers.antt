@@ -1,19 +1,15 @@
-use Rattle.std.proofs.Common.{◌≡◌, ◌∙◌, arith}
-use Rattle.bits.specs.Words.{bit_of}
-use Rattle.scan.proofs.Memory.{moving_none, moving_more, moving_all, next_entering}
+use Rattle.std.proofs.Common.{ℕ, List, get_or, set, ap, ◌∙◌, arith}
+use Rattle.std.proofs.lemmas.List.{length-take-le}
+use Rattle.bits.specs.Words.{bit_of, word_of}
+use Rattle.scan.proofs.Memory.{next_carried, holding_more}
 use Rattle.scan.proofs.chains.move_up.Goals as goal
 
-pub loop-p-init : goal.loop-p-init
-loop-p-init c = (moving_none _ _ _, c.requires.fits)
-
-pub loop-p-preserved : goal.loop-p-preserved
-loop-p-preserved c =
-    let room = c.requires.room in (
-      moving_more _ _ _ _ _ _ (omega arith) c.loop-p.invariant.0 c.loop-p.invariant.1,
-      c.low-leaving.ensures
-          ∙ next_entering c.args.chains (bit_of c.args.entering) c.args.words.now c.loop-p.words c.loop-p.p
-          (c.loop-p.invariant.0.left c.loop-p.p (omega arith)),
+pub loop-word-preserved : goal.loop-word-preserved
+loop-word-preserved c =
+    let n = c.loop-word.word-index in
+    let long = length-take-le c.args.positions c.args.words.now c.requires.room in
+    let so_far = c.loop-word.invariant.0 in (
+      ap (λ (ws : List ℕ). set ws n c.replace.new.dest) so_far ∙ holding_more _ _ _ _ _ c.loop-word-test.true (c.replace.ensures.after ∙ c.loop-word.invariant.1),
+      c.low-carried.ensures ∙ ap (λ (w : ℕ). word_of c.args.chains (bit_of w)) (c.replace.ensures.value ∙ ap (λ (ws : List ℕ). get_or ws n 0) so_far)
+          ∙ next_carried n c.args.positions _ _ _ c.args.words.now c.requires.room (omega arith),
     )
-
-pub returns : goal.returns
-returns c = let n : c.loop-p.p ≡ c.args.positions = omega arith in moving_all _ _ _ _ _ _ c.requires.room n c.loop-p.invariant.0

@@ -1,12 +1,12 @@
-use Rattle.std.proofs.Common.{◌≡◌}
+use Rattle.std.proofs.Common.{◌≡◌, take}
 use Rattle.bits.specs.Words.{bit_of, word_of}
 use Rattle.scan.specs.Loads.{moved_up}
-use Rattle.scan.specs.Memory.{chains_in}
-use Rattle.scan.proofs.Memory.{Moving}
+use Rattle.scan.specs.Memory.{chains_in, holding}
 use Rattle.scan.proofs.chains.move_up.Given as goal
 
--- p positions have moved up, and the word that the next one takes is carried
-abbrev pub invariant-loop-p : goal.invariant-loop-p
-invariant-loop-p l =
-    (Moving l.chains (moved_up (bit_of l.entering) (chains_in l.initial.words)) l.initial.words l.words l.p)
-    × (l.carried ≡ word_of l.chains (moved_up (bit_of l.entering) (chains_in l.initial.words) l.p))
+-- so many words have moved up, and the one that the next takes is carried
+abbrev pub invariant-loop-word : goal.invariant-loop-word
+invariant-loop-word l =
+    let moved = moved_up (bit_of l.entering) (chains_in l.fn.words) in
+    (l.word-items ≡ holding l.word-index l.chains moved (take l.positions l.fn.words))
+    × (l.carried ≡ word_of l.chains (moved l.word-index))

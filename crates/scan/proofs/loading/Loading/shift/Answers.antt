@@ -1,20 +1,19 @@
-use Rattle.std.proofs.Common.{sym, ◌∙◌, rules}
+use Rattle.std.proofs.Common.{◌≡◌, arith, rules}
+use Rattle.std.proofs.lemmas.Bool.Decides.{nat_tests}
 use Rattle.scan.specs.Memory.{chains_in}
 use Rattle.scan.proofs.Memory.{read_fits, read_enters}
 use Rattle.scan.proofs.loading.Loading.shift.Goals as goal
 
-pub move_up-requires : goal.move_up-requires
-move_up-requires g c = record {
-  room = c.if-chains-self.false;
-  fits = read_fits (g.M.Machine.meaning c.args.machine.now) _ _ _ _ c.shift.ensures.same (sym c.outlets.ensures ∙ c.if-outlets-self.false) c.read.ensures;
-}
+pub move_up-requires-clause-fits : goal.move_up-requires-clause-fits
+move_up-requires-clause-fits g c = read_fits (g.M.Machine.meaning c.args.machine.now) _ _ _ _ c.shift.ensures.same (grind (arith, nat_tests)) c.read.ensures
 
-pub returns-then-self-2 : goal.returns-then-self-2
-returns-then-self-2 g c =
+pub returns-then-self-fit-clause-after : goal.returns-then-self-fit-clause-after
+returns-then-self-fit-clause-after g c =
     let m = g.M.Machine.meaning c.args.machine.now in
-    let run = c.args.self.now in
+    let fit = c.args.self.now.fit in
     let memory = c.args.chains.now in
+    let outlets : m.outlets ≡ fit.outlets = grind (arith, nat_tests) in
     let moved =
-    read_enters m _ run.outlets c.read.result (g.M.Machine.cells c.shift.new.self) c.shift.ensures.same
-    (sym c.outlets.ensures ∙ c.if-outlets-self.false) c.read.ensures run.shifts (chains_in memory) memory c.move_up.new.words c.move_up.ensures in
+    read_enters m _ fit.outlets c.read.result (g.M.Machine.cells c.shift.new.self) c.shift.ensures.same
+    outlets c.read.ensures fit.frame.shifts (chains_in memory) memory c.move_up.new.words c.move_up.ensures in
     search rules
