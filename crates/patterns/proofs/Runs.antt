@@ -11,6 +11,7 @@ use Rattle.bits.proofs.Bitwise.{word_self, word_fits, word_at}
 use Rattle.machine.specs.Linear.{Linear}
 use Rattle.refusals.specs.declared.Refusal.{Refusal}
 use Rattle.refusals.specs.declared.Refusal.TheVariants.{OutOfRange, TooMany, MemoryTooShort, MalformedField}
+use Rattle.refusals.specs.declared.handed_back.HandedBack.{HandedBack}
 use Rattle.refusals.specs.Chains.{ok_map, and_then, refused_if, reading}
 use Rattle.scan.specs.declared.frame.Frame.{Frame}
 use Rattle.scan.specs.declared.response.Loaded.{Loaded}
@@ -44,10 +45,6 @@ holds_its_load m f x memory room b in-range =
     ap (λ (v : Bool). beq v b.value)
     (ap (λ (w : ℕ). bit_of w b.chain) (holding_at f.shifts m.outlets (load m f x) memory room b.position in-range.position_below)
     ∙ word_at m.outlets (load m f x b.position) b.chain in-range.chain_below)
-
--- the frame that a run goes by
-abbrev pub frame_of : Run → Frame
-frame_of r = record { warmup = r.warmup; shifts = r.shifts }
 
 module _ (m : Linear) (f : Frame) (x : Row) (memory : List ℕ) where
   -- what memory holds after t cycles of the load
@@ -148,7 +145,7 @@ module _ (m : Linear) (f : Frame) (digits : List ℕ) where
       ap (λ (r : Result (Run × Bench) Refusal). and_then r closed)
       (load_steps m f injection memory room 0 words (omega arith) (λ i l.
       let e : suc i ≡ suc (0 + i) = omega arith in each.each i (omega arith) ∙ ap (taken m.channels injection) e))
-      ∙ ap (λ (r : Result Loaded (Run × Refusal)). result_map_both (λ l. (l, (loaded_to m f injection memory (cycles f)).1)) (λ (back : Run × Refusal). back.1) r) (all_done m f)
+      ∙ ap (λ (r : Result Loaded (HandedBack Run)). result_map_both (λ l. (l, (loaded_to m f injection memory (cycles f)).1)) (λ (back : HandedBack Run). back.refusal) r) (all_done m f)
 
   by_hand : (words : List ℕ) (b : Bench) → length digits ≡ variables m.channels f → all_digits digits ≡ true → InjectionWords m f injection words
       → run_by_hand m f words b ≡ replaying m f digits b

@@ -40,7 +40,7 @@ HoldsItsLoad m f x memory =
 
 -- closing, beside the bench that it does not touch
 abbrev pub closed : Run × Bench → Result (Loaded × Bench) Refusal
-closed o = result_map_both (λ loaded. (loaded, o.1)) (λ back. back.1) (closing o.0)
+closed o = result_map_both (λ loaded. (loaded, o.1)) (λ back. back.refusal) (closing o.0)
 
 -- a run by hand: start, a shift for each word, close
 abbrev pub run_by_hand : Linear → Frame → List ℕ → Bench → Result (Loaded × Bench) Refusal

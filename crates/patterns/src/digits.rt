@@ -1,25 +1,13 @@
 // Bits as digits: the bytes `0` and `1`.
 ghost use Rattle.std.specs.Prelude.{◌≡◌, ◌≤◌, length};
-ghost use Rattle.bits.specs.Digits.{is_digit, all_digits, digit_row};
+ghost use Rattle.bits.specs.Digits.{all_digits, digit_row};
 ghost use Rattle.bits.specs.Words.{word_of};
-
-// Whether a byte is a digit.
-fn is_digit(byte: u8) -> bool
-    ensures { result ≡ is_digit byte }
-{
-    byte == b'0' || byte == b'1'
-}
 
 // Whether every byte is a digit.
 pub(crate) fn all_digits(bytes: &[u8]) -> bool
     ensures { result ≡ all_digits bytes.now }
 {
-    for byte in bytes {
-        if !is_digit(*byte) {
-            return false;
-        }
-    }
-    true
+    bytes.iter().all(|byte| matches!(byte, b'0' | b'1'))
 }
 
 // The word whose bits are the digits.
@@ -28,8 +16,8 @@ pub(crate) fn word_of(digits: &[u8]) -> u64
     ensures { result ≡ word_of (length digits.now) (digit_row digits.now) }
 {
     let mut word = 0u64;
-    for k in 0..digits.len() {
-        word |= ((digits[k] == b'1') as u64) << k;
+    for (k, digit) in digits.iter().enumerate() {
+        word |= ((*digit == b'1') as u64) << k;
     }
     word
 }

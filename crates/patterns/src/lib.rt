@@ -40,6 +40,7 @@ fn check_pattern(channels: usize, frame: Frame, digits: &[u8], room: usize) -> R
 // as they were.
 //
 // `loaded` says which cells the pattern sets, `positions` where they come from, and `runs` that shifting by hand does the same.
+#[tactic(auto, using(crate::proofs::Loads::position_ends, crate::proofs::Runs::whole_runs))]
 pub fn replay<M: Machine>(
     machine: &mut M,
     frame: Frame,
@@ -56,12 +57,8 @@ pub fn replay<M: Machine>(
     let channels = machine.channels();
     check_pattern(channels, frame, digits, chains.len())?;
     let mut run = Loading::start(machine, frame, chains)?;
-    for t in 0..frame.warmup + frame.shifts {
-        let word = word_of(&digits[t * channels..(t + 1) * channels]);
-        run.shift(machine, word, chains)?;
+    for cycle in digits.chunks_exact(channels) {
+        run.shift(machine, word_of(cycle), chains)?;
     }
-    match run.close() {
-        Ok(loaded) => Ok(loaded),
-        Err(back) => Err(back.1),
-    }
+    Ok(run.close()?)
 }

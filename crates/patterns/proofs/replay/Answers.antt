@@ -1,101 +1,61 @@
-use Rattle.std.proofs.Common.{Err, sym, refl, ap, ◌∙◌, arith, rules}
-use Rattle.std.proofs.lemmas.Result.{err_from_is_err_and}
+use Rattle.std.proofs.Common.{◌≡◌, ℕ, suc, ◌+◌, ◌*◌, ◌<◌, ◌≤◌, length, drop, sym, ap, ap₂, subst, ◌∙◌, arith}
+use Rattle.std.proofs.lemmas.Bool.Decides.{nat_tests}
 use Rattle.bits.specs.Digits.{digit_row}
-use Rattle.refusals.specs.declared.Refusal.{Refusal}
+use Rattle.bits.specs.Words.{bit_of}
+use Rattle.bits.specs.Rows.{upto}
+use Rattle.machine.specs.Linear.{Linear}
 use Rattle.refusals.specs.Chains.{left_by}
-use Rattle.scan.specs.Runs.{bench, underway, answered, bench_after}
+use Rattle.scan.specs.Frames.{cycles, taken}
+use Rattle.scan.specs.Runs.{Run, Bench, underway, shifting}
 use Rattle.scan.specs.Views.{run_of}
-use Rattle.patterns.proofs.Loads.{position_ends}
-use Rattle.patterns.proofs.Replays.{refused_here, not_loaded, start_follows, never_refused, never_both, same_loaded, reached_none, digits_end, reached_more, reached_all}
-use Rattle.patterns.proofs.Runs.{whole_runs}
+use Rattle.patterns.specs.Replays.{HoldsItsLoad}
+use Rattle.patterns.proofs.Replays.{cycle_word, cycle_left, cycles_done}
+use Rattle.patterns.proofs.Runs.{loaded_to, load_step, holds_its_load}
 use Rattle.patterns.proofs.replay.Goals as goal
 
-pub returns-in_err-check_pattern : goal.returns-in_err-check_pattern
-returns-in_err-check_pattern g c =
+pub loop-cycle-preserved : goal.loop-cycle-preserved
+loop-cycle-preserved g c =
     let m = g.M.Machine.meaning c.args.machine.now in
-    let b = bench (g.M.Machine.cells c.args.machine.now) c.args.chains.now in
-    let p = err_from_is_err_and c.from_residual.result c.from_residual.ensures.1 in
-    let e = refused_here c.channels-channels.result m c.args.frame c.args.digits.now b _ c.channels-channels.ensures
-    c.in_err-check_pattern.ensures in
-    record {
-      same = refl;
-      answer = p.1 ∙ ap (λ (x : Refusal). Err x) p.2 ∙ sym (ap answered e);
-      after = sym (ap (bench_after b) e);
-      loaded = not_loaded m c.args.frame (digit_row c.args.digits.now) c.args.chains.now c.from_residual.result p.0 p.1;
-      positions = position_ends m c.args.frame;
-      runs = whole_runs m c.args.frame;
-    }
-
-pub returns-in_err-run : goal.returns-in_err-run
-returns-in_err-run g c =
-    absurd (start_follows c.channels-channels.result (g.M.Machine.meaning c.args.machine.now) c.args.frame c.args.digits.now
-    (bench (g.M.Machine.cells c.args.machine.now) c.args.chains.now) _ c.channels-channels.ensures
-    c.in_ok-check_pattern.ensures c.in_err-run.ensures.answer)
-
-pub loop-t-init : goal.loop-t-init
-loop-t-init g c = (
-  refl,
-  reached_none c.channels-channels.result (g.M.Machine.meaning c.args.machine.now) _ c.args.frame c.args.digits.now
-      (bench (g.M.Machine.cells c.args.machine.now) c.args.chains.now)
-      (bench (g.M.Machine.cells c.start.new.machine) c.start.new.chains) (run_of c.in_ok-run.run') c.channels-channels.ensures
-      c.in_ok-check_pattern.ensures c.start.ensures.same c.in_ok-run.ensures.answer c.start.ensures.after,
-)
-
-pub slice_bounds-word_of-end : goal.slice_bounds-word_of-end
-slice_bounds-word_of-end g c =
-    let e = digits_end c.channels-channels.result (g.M.Machine.meaning c.args.machine.now) _ c.args.frame c.args.digits.now
-    (bench (g.M.Machine.cells c.args.machine.now) c.args.chains.now)
-    (bench (g.M.Machine.cells c.start.new.machine) c.start.new.chains) (run_of c.in_ok-run.run') c.channels-channels.ensures
-    c.in_ok-check_pattern.ensures c.start.ensures.same c.in_ok-run.ensures.answer c.start.ensures.after
-    c.loop-t.t c.loop-t-test.true in
-    search rules
-
-pub returns-in_err-shift : goal.returns-in_err-shift
-returns-in_err-shift g c =
-    let step = reached_more c.channels-channels.result (g.M.Machine.meaning c.args.machine.now) _ c.args.frame c.args.digits.now
-    (bench (g.M.Machine.cells c.args.machine.now) c.args.chains.now)
-    (bench (g.M.Machine.cells c.start.new.machine) c.start.new.chains) (run_of c.in_ok-run.run') c.channels-channels.ensures
-    c.in_ok-check_pattern.ensures c.start.ensures.same c.in_ok-run.ensures.answer c.start.ensures.after
-    (g.M.Machine.meaning c.loop-t.machine) (underway (run_of c.loop-t.run) (g.M.Machine.cells c.loop-t.machine) c.loop-t.chains)
-    c.loop-t.t c.word_of-word.result c.loop-t.invariant.0 c.loop-t.invariant.1 c.loop-t-test.true c.word_of-word.ensures in
-    absurd (never_refused _ _ _ step c.in_err-shift.ensures.answer)
-
-pub loop-t-preserved : goal.loop-t-preserved
-loop-t-preserved g c =
-    let so_far = underway (run_of c.loop-t.run) (g.M.Machine.cells c.loop-t.machine) c.loop-t.chains in
-    let step = reached_more c.channels-channels.result (g.M.Machine.meaning c.args.machine.now) _ c.args.frame c.args.digits.now
-    (bench (g.M.Machine.cells c.args.machine.now) c.args.chains.now)
-    (bench (g.M.Machine.cells c.start.new.machine) c.start.new.chains) (run_of c.in_ok-run.run') c.channels-channels.ensures
-    c.in_ok-check_pattern.ensures c.start.ensures.same c.in_ok-run.ensures.answer c.start.ensures.after
-    (g.M.Machine.meaning c.loop-t.machine) so_far
-    c.loop-t.t c.word_of-word.result c.loop-t.invariant.0 c.loop-t.invariant.1 c.loop-t-test.true c.word_of-word.ensures in (
-      c.in_ok-shift.ensures.same ∙ c.loop-t.invariant.0,
-      c.in_ok-shift.ensures.after ∙ ap (left_by so_far) step,
+    let f = c.args.frame in
+    let digits = c.args.digits.now in
+    let memory = c.args.chains.now in
+    let k = c.channels-channels.result in
+    let t = c.loop-cycle.run.done in
+    let here = sym c.in-Some.ensures.steps.1.0 ∙ c.loop-cycle.invariant.3 in
+    let long = c.in-Some.ensures.steps.1.1 ∙ c.loop-cycle.invariant.4 in
+    let room : f.shifts ≤ length memory = grind (arith, nat_tests) in
+    let few : t < cycles f = grind (arith, nat_tests) in
+    let word = cycle_word k t digits _ _ (sym here) long _ c.word_of.ensures in
+    let step = load_step m f (digit_row digits) memory room t c.word_of.result few
+    (subst (λ (n : ℕ). upto n (bit_of c.word_of.result) ≡ taken n (digit_row digits) (suc t)) c.channels-channels.ensures word) in
+    let moved : underway (run_of c.shift.new.self) (g.M.Machine.cells c.shift.new.machine) c.shift.new.chains ≡ loaded_to m f (digit_row digits) memory (t + 1) =
+    c.in_ok-shift.ensures.after
+    ∙ ap₂ (λ (l : Linear) (o : Run × Bench). left_by o (shifting l o c.word_of.result)) c.loop-cycle.invariant.0 c.loop-cycle.invariant.1
+    ∙ ap (left_by (loaded_to m f (digit_row digits) memory t)) step in
+    let next : c.shift.new.self.done ≡ t + 1 = ap (λ (o : Run × Bench). o.0.done) moved in (
+      c.in_ok-shift.ensures.same ∙ c.loop-cycle.invariant.0,
+      moved ∙ ap (loaded_to m f (digit_row digits) memory) (sym next),
+      omega arith,
+      cycle_left k t digits _ _ (sym here) long ∙ ap (λ (n : ℕ). drop (n * k) digits) (sym next),
+      c.in-Some.ensures.steps.0 ∙ c.loop-cycle.invariant.4,
     )
 
-pub returns-in-Ok : goal.returns-in-Ok
-returns-in-Ok g c =
-    let m = g.M.Machine.meaning c.args.machine.now in
-    let b = bench (g.M.Machine.cells c.args.machine.now) c.args.chains.now in
-    let end = reached_all c.channels-channels.result (g.M.Machine.meaning c.args.machine.now) _ c.args.frame c.args.digits.now
-    (bench (g.M.Machine.cells c.args.machine.now) c.args.chains.now)
-    (bench (g.M.Machine.cells c.start.new.machine) c.start.new.chains) (run_of c.in_ok-run.run') c.channels-channels.ensures
-    c.in_ok-check_pattern.ensures c.start.ensures.same c.in_ok-run.ensures.answer c.start.ensures.after
-    (underway (run_of c.loop-t.run) (g.M.Machine.cells c.loop-t.machine) c.loop-t.chains) c.loop-t.t c.loop-t.invariant.1 (omega arith) in
-    record {
-      same = c.loop-t.invariant.0 ∙ c.start.ensures.same;
-      answer = same_loaded _ _ (c.in-Ok.ensures ∙ end.closes) ∙ sym (ap answered end.leaves);
-      after = sym (ap (bench_after b) end.leaves);
-      loaded = λ _. end.holds;
-      positions = position_ends m c.args.frame;
-      runs = whole_runs m c.args.frame;
-    }
+pub returns-in_err-close : goal.returns-in_err-close
+returns-in_err-close g c =
+    let k = c.channels-channels.result in
+    let n = cycles c.args.frame in
+    let count : length c.args.digits.now ≡ k * n = grind (arith, nat_tests) in
+    let done : c.loop-cycle.run.done ≡ n =
+    cycles_done k _ n _ c.args.digits.now _ count c.loop-cycle.invariant.2 c.loop-cycle.invariant.3 c.loop-cycle.invariant.4 c.in-None.ensures.steps.1.0 in
+    absurd (grind (arith, nat_tests))
 
-pub returns-in-Err : goal.returns-in-Err
-returns-in-Err g c =
-    let end = reached_all c.channels-channels.result (g.M.Machine.meaning c.args.machine.now) _ c.args.frame c.args.digits.now
-    (bench (g.M.Machine.cells c.args.machine.now) c.args.chains.now)
-    (bench (g.M.Machine.cells c.start.new.machine) c.start.new.chains) (run_of c.in_ok-run.run') c.channels-channels.ensures
-    c.in_ok-check_pattern.ensures c.start.ensures.same c.in_ok-run.ensures.answer c.start.ensures.after
-    (underway (run_of c.loop-t.run) (g.M.Machine.cells c.loop-t.machine) c.loop-t.chains) c.loop-t.t c.loop-t.invariant.1 (omega arith) in
-    absurd (never_both _ _ (c.in-Err.ensures ∙ end.closes))
+pub returns-clause-loaded : goal.returns-clause-loaded
+returns-clause-loaded g c =
+    let m = g.M.Machine.meaning c.args.machine.now in
+    let f = c.args.frame in
+    let x = digit_row c.args.digits.now in
+    let memory = c.args.chains.now in
+    let room : f.shifts ≤ length memory = grind (arith, nat_tests) in
+    let done : c.loop-cycle.run.done ≡ cycles f = grind (arith, nat_tests) in
+    let all = c.loop-cycle.invariant.1 ∙ ap (loaded_to m f x memory) done in
+    λ _. subst (λ (o : Run × Bench). HoldsItsLoad m f x o.1.memory) (sym all) (holds_its_load m f x memory room)

@@ -1,20 +1,13 @@
-use Rattle.std.proofs.Common.{◌+◌, Bool, ◌&&◌, drop, sym, ap, ◌∙◌}
-use Rattle.std.proofs.lemmas.List.{at_drop_more, at_drop_all}
-use Rattle.bits.specs.Digits.{all_digits}
+use Rattle.std.proofs.Common.{◌&&◌, refl, ◌∙◌, rules, tests}
+use Rattle.std.proofs.lemmas.Iterator.{YieldsList-from_slice}
+use Rattle.std.proofs.lemmas.Iterator.Search.{all_from_yields_List}
+use Rattle.std.proofs.lemmas.List.Recursion.{same_from_clauses}
+use Rattle.std.specs.List.{list_all}
+use Rattle.bits.specs.Digits.{is_digit, all_digits}
 use Rattle.patterns.proofs.digits.all_digits.Goals as goal
 
-pub returns-then-not-is_digit : goal.returns-then-not-is_digit
-returns-then-not-is_digit c =
-    let i = c.loop-byte.byte-index in
-    sym (sym c.loop-byte.invariant ∙ at_drop_more all_digits c.args.bytes.now i 0 c.loop-byte-test.true
-    ∙ ap (λ (b : Bool). b && all_digits (drop (i + 1) c.args.bytes.now)) (sym c.is_digit.ensures ∙ c.if-not-is_digit.true))
-
-pub loop-byte-preserved : goal.loop-byte-preserved
-loop-byte-preserved c =
-    let i = c.loop-byte.byte-index in
-    sym (at_drop_more all_digits c.args.bytes.now i 0 c.loop-byte-test.true
-    ∙ ap (λ (b : Bool). b && all_digits (drop (i + 1) c.args.bytes.now)) (sym c.is_digit.ensures ∙ c.if-not-is_digit.false))
-    ∙ c.loop-byte.invariant
-
 pub returns : goal.returns
-returns c = sym (at_drop_all all_digits c.args.bytes.now c.loop-byte.byte-index c.loop-byte-test.false) ∙ c.loop-byte.invariant
+returns c =
+    let bytes = c.args.bytes.now in
+    all_from_yields_List is_digit _ _ _ c.all.ensures.ran (YieldsList-from_slice bytes cc) (λ x b q k. search (rules, tests))
+    ∙ same_from_clauses (list_all is_digit) all_digits (λ byte rest. is_digit byte && rest) refl (λ _ _. refl) (λ _ _. refl) bytes
