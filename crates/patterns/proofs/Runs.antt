@@ -2,7 +2,7 @@
 use Rattle.std.proofs.Common.{◌≡◌, ℕ, zero, suc, ◌+◌, ◌<◌, ◌≤◌, Bool, true, false, cond, not, eqb, ltb, List, [], ◌∷◌, ◌++◌, length, get_or, drop, Ok, Result, sym, refl, ap, ◌∙◌, ap₂, add-one, arith}
 use mathlib.Core.Bool.{beq}
 use Rattle.std.proofs.lemmas.List.{drop_at, take_at}
-use Rattle.std.proofs.lemmas.Bool.{false≢true, ltb-false, le-ltb, lt-leb, eq-eqb, and_from, cond-false}
+use Rattle.std.proofs.lemmas.Bool.{ltb-false, le-ltb, lt-leb, eq-eqb, and_from, cond-false}
 use Rattle.std.specs.Result.{result_map_both}
 use Rattle.bits.specs.Digits.{all_digits, digit_row}
 use Rattle.bits.specs.Rows.{Row, upto}
@@ -104,28 +104,18 @@ module _ (p q r s : Refusal) where
   -- what comes after a start that is not refused
   start_tests : {X Y : Type 0} (a b c : Bool) (x : X) (g : X → Result Y Refusal) (y : Result Y Refusal) → (c ≡ false → g x ≡ y)
       → and_then (refused_if a p (refused_if b q (refused_if c r (Ok x)))) g ≡ refused_if a p (refused_if b q (refused_if c r y))
-  start_tests true b c x g y h = refl
-  start_tests false true c x g y h = refl
-  start_tests false false true x g y h = refl
-  start_tests false false false x g y h = h refl
+  start_tests a b c x g y h = grind arith
 
   -- with the right digits a replay has the tests of a start
   replay_tests : {Y : Type 0} (a n b c d : Bool) (y : Result Y Refusal) → n ≡ false → d ≡ false
       → refused_if a p (refused_if b q (refused_if c r y)) ≡ refused_if a p (refused_if n p (refused_if b q (refused_if c r (refused_if d s y))))
-  replay_tests a false b c false y n d = refl
-  replay_tests a true b c d y n e = absurd (false≢true (sym n))
-  replay_tests a false b c true y n e = absurd (false≢true (sym e))
+  replay_tests a n b c d y none good = rw (none, good)
 
   -- what is seen of a replay that has room
   seen_tests : {X Y : Type 0} (a n b c d : Bool) (x : X) (g : X → Y) → c ≡ false
       → ok_map g (refused_if a p (refused_if n p (refused_if b q (refused_if c r (refused_if d s (Ok x))))))
       ≡ refused_if a p (refused_if n p (refused_if b q (refused_if d s (Ok (g x)))))
-  seen_tests a n b true d x g e = absurd (false≢true (sym e))
-  seen_tests true n b false d x g e = refl
-  seen_tests false true b false d x g e = refl
-  seen_tests false false true false d x g e = refl
-  seen_tests false false false false true x g e = refl
-  seen_tests false false false false false x g e = refl
+  seen_tests a n b c d x g e = grind arith
 
 module _ (m : Linear) (f : Frame) (digits : List ℕ) where
   abbrev injection : Row

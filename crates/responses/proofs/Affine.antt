@@ -1,34 +1,20 @@
 -- A bit of a row that each flip changes by a coefficient is a sum over the row.
-use Rattle.std.proofs.Common.{◌≡◌, ℕ, zero, suc, ◌≤◌, Bool, true, false, cond, ◌&&◌, List, length, sym, refl, ap, ◌∙◌, inl, inr, arith}
+use Rattle.std.proofs.Common.{◌≡◌, ℕ, zero, suc, ◌≤◌, Bool, true, false, cond, ◌&&◌, List, length, sym, refl, ap, ◌∙◌, arith}
+use Rattle.std.proofs.lemmas.Bool.Decides.{nat_tests}
 use mathlib.Core.Bool.{and-true, and-false, beq}
 use Rattle.std.proofs.lemmas.List.{get_or_past}
-use Rattle.std.proofs.lemmas.Bool.{cases_order, eq-eqb, ne_eqb}
 use Rattle.bits.specs.Lists.{row_of}
 use Rattle.bits.specs.Rows.{Row, xor, zeros, plus, upto, sum_of}
-use Rattle.bits.proofs.Sums.{ext, xor_false, xor_assoc, upto_at, upto_past, same_upto}
+use Rattle.bits.proofs.Sums.{ext, xor_false, xor_assoc, upto_past, same_upto}
 use Rattle.equations.specs.Equations.{dot, unit}
 
 -- one bit more of a row
 upto_more : (n : ℕ) (x : Row) → upto (suc n) x ≡ cond (x n) (plus (upto n x) (unit n)) (upto n x)
 upto_more n x = ext (λ i. go (x n) refl i)
   where
-    xor_true : (a : Bool) → a ≡ false → xor a true ≡ true
-    xor_true a e = ap (λ (b : Bool). xor b true) e
-
     go : (b : Bool) → x n ≡ b → (i : ℕ) → upto (suc n) x i ≡ cond b (plus (upto n x) (unit n)) (upto n x) i
-    go true e i = elim (cases_order i n) [
-      | inl z ↦ upto_at (suc n) x i (omega arith) ∙ ap x z ∙ e
-          ∙ sym (ap (xor (upto n x i)) (eq-eqb n i (sym z)) ∙ xor_true (upto n x i) (upto_past n x i (omega arith)))
-      | inr (inl l) ↦ upto_at (suc n) x i (omega arith) ∙ sym (upto_at n x i l)
-          ∙ sym (ap (xor (upto n x i)) (ne_eqb n i (λ z. omega arith)) ∙ xor_false (upto n x i))
-      | inr (inr l) ↦ upto_past (suc n) x i l ∙ sym (upto_past n x i (omega arith))
-          ∙ sym (ap (xor (upto n x i)) (ne_eqb n i (λ z. omega arith)) ∙ xor_false (upto n x i))
-    ]
-    go false e i = elim (cases_order i n) [
-      | inl z ↦ upto_at (suc n) x i (omega arith) ∙ ap x z ∙ e ∙ sym (upto_past n x i (omega arith))
-      | inr (inl l) ↦ upto_at (suc n) x i (omega arith) ∙ sym (upto_at n x i l)
-      | inr (inr l) ↦ upto_past (suc n) x i l ∙ sym (upto_past n x i (omega arith))
-    ]
+    go true e i = grind (arith, nat_tests)
+    go false e i = grind (arith, nat_tests)
 
 module _ (F : Row → Bool) (c : Row) (flips : (x : Row) (i : ℕ) → F (plus x (unit i)) ≡ xor (F x) (c i)) where
   -- from noughts on, flip by flip
@@ -55,11 +41,4 @@ module _ (F : Row → Bool) (c : Row) (flips : (x : Row) (i : ℕ) → F (plus x
   told_by value x h = left (dot c (row_of x)) value (F zeros) ∙ ap (λ (a : Bool). beq a value) (sym (affine_list x h))
     where
       left : (d v z : Bool) → beq d (xor v z) ≡ beq (xor z d) v
-      left true true true = refl
-      left true true false = refl
-      left true false true = refl
-      left true false false = refl
-      left false true true = refl
-      left false true false = refl
-      left false false true = refl
-      left false false false = refl
+      left d v z = grind arith

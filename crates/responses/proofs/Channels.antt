@@ -1,6 +1,5 @@
 -- The responses of the channels, one channel after another.
-use Rattle.std.proofs.Common.{◌≡◌, ℕ, ◌+◌, ◌*◌, ◌%◌, ◌≤◌, Bool, true, false, ◌&&◌, ◌||◌, eqb, ltb, List, sym, refl, ap, ◌∙◌, inl, inr, arith}
-use mathlib.Core.Bool.{or-false}
+use Rattle.std.proofs.Common.{◌≡◌, ℕ, ◌+◌, ◌*◌, ◌%◌, ◌≤◌, Bool, ◌&&◌, ◌||◌, eqb, ltb, List, sym, ap, ◌∙◌, inl, inr, arith}
 use Rattle.std.proofs.lemmas.Nat.{mod_below}
 use Rattle.std.proofs.lemmas.Bool.{cases_lt, lt-ltb, and_right}
 use Rattle.std.proofs.lemmas.Bool.Decides.{nat_tests}
@@ -28,10 +27,7 @@ channel_more m law k t c words more some short so_far set = ext (λ i. ap (λ (r
 ])
   where
     joined : (a b r : Bool) → ((a && r) || (b && r)) ≡ ((a || b) && r)
-    joined true true true = refl
-    joined true true false = refl
-    joined true false r = or-false r
-    joined false b r = refl
+    joined a b r = grind arith
 
     reach : (j : ℕ) → (ltb j k || eqb j k) ≡ ltb j (k + 1)
     reach j = grind (arith, nat_tests)

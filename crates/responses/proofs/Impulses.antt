@@ -1,7 +1,7 @@
 -- Impulses: one channel takes a 1 in one cycle, and nothing else is taken.
-use Rattle.std.proofs.Common.{◌≡◌, ℕ, zero, suc, ◌+◌, ◌-◌, ◌*◌, ◌/◌, ◌%◌, ◌<◌, ◌≤◌, Bool, false, ◌&&◌, eqb, sym, refl, ap, ◌∙◌, subst, ap₂, inl, inr, mul_comm, arith}
+use Rattle.std.proofs.Common.{◌≡◌, ℕ, zero, suc, ◌+◌, ◌-◌, ◌*◌, ◌/◌, ◌%◌, ◌<◌, ◌≤◌, Bool, false, ◌&&◌, eqb, refl, ap, ◌∙◌, subst, ap₂, mul_comm, arith}
 use Rattle.std.proofs.lemmas.Nat.{div-mul-add, mod-mul-add, div-add-mod', le-div}
-use Rattle.std.proofs.lemmas.Bool.{cases_eq, eq-eqb, ne_eqb, and_from, and_left, and_right}
+use Rattle.std.proofs.lemmas.Bool.{eq-eqb, ne_eqb, and_left}
 use Rattle.std.proofs.lemmas.Bool.Decides.{nat_tests}
 use Rattle.bits.specs.Rows.{Row, zeros, upto}
 use Rattle.bits.proofs.Sums.{upto_same}
@@ -18,21 +18,12 @@ impulse m k zero = m.next zeros (upto m.channels (unit k))
 impulse m k (suc d) = m.next (impulse m k d) zeros
 
 -- place i is that of channel i % k in cycle i / k + 1, and of no other
-place_test : (k i t c : ℕ) → c < k → eqb i (t * k + c) ≡ (eqb (i / k) t && eqb (i % k) c)
+pub place_test : (k i t c : ℕ) → c < k → eqb i (t * k + c) ≡ (eqb (i / k) t && eqb (i % k) c)
 place_test k i t c h =
-    elim (cases_eq i (t * k + c)) [
-      | inl e ↦ eq-eqb i (t * k + c) e
-          ∙ sym (and_from _ _ (eq-eqb (i / k) t (ap (λ (j : ℕ). j / k) e ∙ div-mul-add t k c h))
-          (eq-eqb (i % k) c (ap (λ (j : ℕ). j % k) e ∙ mod-mul-add t k c h)))
-      | inr d ↦ ne_eqb i (t * k + c) d ∙ sym (elim (cases_eq (i / k) t) [
-        | inl p ↦ and_right _ _ (ne_eqb (i % k) c (λ r. d (sym (div-add-mod' i k) ∙ ap₂ (λ (a b : ℕ). a * k + b) p r)))
-        | inr q ↦ and_left _ _ (ne_eqb (i / k) t q)
-      ])
-    ]
-
--- the same, seen from the place
-pub at_place : (k i t c : ℕ) → c < k → eqb (t * k + c) i ≡ (eqb (i / k) t && eqb (i % k) c)
-at_place k i t c h = let turned : eqb (t * k + c) i ≡ eqb i (t * k + c) = grind (arith, nat_tests) in turned ∙ place_test k i t c h
+    let cycle = div-mul-add t k c h in
+    let channel = mod-mul-add t k c h in
+    let whole = div-add-mod' i k in
+    grind (arith, nat_tests)
 
 module _ (k i : ℕ) where
   -- the one bit i of an injection is taken in its cycle, by its channel ..
@@ -70,12 +61,12 @@ module _ (m : Linear) (law : Superposes m) where
   response_past t c i some h =
       response_late t c i (le-div t i m.channels some (subst (λ (n : ℕ). n ≤ i) (mul_comm m.channels t) h))
 
-  -- what channel k took d shifts before the last is seen through its impulse
-  pub response_at : (t c k d : ℕ) → k < m.channels → d < t → response m t c (place_of m.channels (t - d) k) ≡ m.out (impulse m k d) c
-  response_at t c k d h l =
-      let i : ℕ = place_of m.channels (t - d) k in
-      let cycle = div-mul-add (t - d - 1) m.channels k h in
-      let channel = mod-mul-add (t - d - 1) m.channels k h in
+  -- what channel k took in cycle q is seen through its impulse
+  pub response_at : (t c k q : ℕ) → k < m.channels → 0 < q → q ≤ t → response m t c (place_of m.channels q k) ≡ m.out (impulse m k (t - q)) c
+  response_at t c k q h begun l =
+      let i : ℕ = place_of m.channels q k in
+      let cycle = div-mul-add (q - 1) m.channels k h in
+      let channel = mod-mul-add (q - 1) m.channels k h in
       let e : t ≡ suc (t - 1) = omega arith in
       ap (λ (n : ℕ). m.out (cells_after m (unit i) n) c) e
-      ∙ ap (λ (s : Row). m.out s c) (struck i d (t - 1) (omega arith) ∙ ap (λ (j : ℕ). impulse m j d) channel)
+      ∙ ap (λ (s : Row). m.out s c) (struck i (t - q) (t - 1) (omega arith) ∙ ap (λ (j : ℕ). impulse m j (t - q)) channel)

@@ -4,4 +4,3 @@ mod Impulses
 mod Responding
 mod Channels
 mod Equations
-mod Looks

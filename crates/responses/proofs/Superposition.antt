@@ -1,5 +1,5 @@
 -- Superposition over a run: the sum of two injections leads to the sum of what each leads to.
-use Rattle.std.proofs.Common.{◌≡◌, ℕ, zero, suc, ◌-◌, ◌<◌, Bool, true, false, cond, ltb, sym, refl, ap, ◌∙◌, ap₂}
+use Rattle.std.proofs.Common.{◌≡◌, ℕ, zero, suc, ◌-◌, ◌<◌, false, sym, refl, ap, ◌∙◌, ap₂, arith}
 use Rattle.bits.specs.Rows.{Row, xor, zeros, plus, upto}
 use Rattle.bits.proofs.Sums.{ext, plus_self, upto_plus}
 use Rattle.machine.specs.Linear.{Linear, Superposes}
@@ -10,11 +10,7 @@ use Rattle.scan.specs.Loads.{cells_after, load}
 
 -- the first bits of the row of noughts
 pub upto_zeros : (n : ℕ) → upto n zeros ≡ zeros
-upto_zeros n = ext (λ i. none (ltb i n))
-  where
-    none : (b : Bool) → cond b false false ≡ false
-    none true = refl
-    none false = refl
+upto_zeros n = ext (λ i. grind arith)
 
 module _ (m : Linear) (law : Superposes m) where
   -- noughts make noughts

@@ -1,27 +1,17 @@
 // The impulse of one channel, shifted through a machine.
 ghost use Rattle.std.specs.Prelude.{◌≡◌, ◌*◌, ◌<◌, ◌≤◌};
 ghost use Rattle.equations.specs.Equations.{words_row};
-ghost use Rattle.scan.specs.Frames.{place_of};
 ghost use Rattle.responses.specs.Responses.{responded};
 
 use bits::has;
 use equations::with_bit;
 use machine::Machine;
 
-// The place in an injection of the bit that a channel takes in a cycle, cycles being counted from 1.
-fn place_of(channels: usize, cycle: usize, channel: usize) -> usize
-    requires begun { 1 ≤ cycle }
-    requires within { place_of channels cycle channel < 256 }
-    ensures { result ≡ place_of channels cycle channel }
-{
-    (cycle - 1) * channels + channel
-}
-
 // Coefficients with the responses of one channel set. The machine does the same in every cycle, so one impulse tells them all: what the outlet
 // shows d shifts after it is the response to what the channel takes d cycles before the last.
 pub(crate) fn respond<M: Machine>(
     machine: &mut M,
-    coefficients: [u64; 4],
+    mut coefficients: [u64; 4],
     channel: usize,
     cycles: usize,
     chain: usize,
@@ -33,15 +23,18 @@ pub(crate) fn respond<M: Machine>(
     ensures coefficients { words_row result ≡ responded (M.meaning machine.old) channel cycles chain (words_row coefficients) }
 {
     let channels = machine.channels();
-    let mut words = coefficients;
     let mut taken = 1u64 << channel;
     machine.reset();
-    for d in 0..cycles {
+    for cycle in (0..cycles).rev() {
         machine.shift(taken);
         taken = 0;
-        let place = place_of(channels, cycles - d, channel);
-        let more = with_bit(words, place, has(machine.read(), chain));
-        words = more;
+        // The check takes an array from a call into a new variable only.
+        let more = with_bit(
+            coefficients,
+            cycle * channels + channel,
+            has(machine.read(), chain),
+        );
+        coefficients = more;
     }
-    words
+    coefficients
 }

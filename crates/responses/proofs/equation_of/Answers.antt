@@ -1,55 +1,43 @@
-use Rattle.std.proofs.Common.{◌≡◌, ℕ, ◌*◌, ◌<◌, ◌≤◌, sym, refl, ap, ◌∙◌, subst, arith}
+use Rattle.std.proofs.Common.{◌≡◌, ℕ, ◌-◌, ◌*◌, ◌<◌, ◌≤◌, Ok, Result, refl, ap, ap₂, ◌∙◌, subst, arith}
+use Rattle.std.proofs.lemmas.Bool.Decides.{nat_tests}
+use Rattle.std.proofs.lemmas.Grind.{common_steps}
 use Rattle.equations.specs.declared.Equation.{Equation}
 use Rattle.equations.specs.Equations.{words_row}
 use Rattle.machine.specs.Linear.{Linear}
-use Rattle.responses.specs.Responses.{response, responded, EquationOf}
+use Rattle.scan.specs.Frames.{cycles}
+use Rattle.responses.specs.Responses.{responded, EquationOf}
 use Rattle.responses.proofs.Channels.{below, below_all, channel_more}
 use Rattle.responses.proofs.Equations.{equation_stands}
-use Rattle.responses.proofs.Looks.{cycles_few, bit_accepted, same_accepted}
 use Rattle.responses.proofs.equation_of.Goals as goal
 
-pub respond-more-requires : goal.respond-more-requires
-respond-more-requires g c =
-    let m = g.M.Machine.meaning c.args.machine.now in
-    let same = sym c.loop-channel.invariant.0 in
-    record {
-      channels = subst (λ (l : Linear). c.loop-channel.channel < l.channels) same
-          (subst (λ (n : ℕ). c.loop-channel.channel < n) c.channels-channels.ensures c.loop-channel-test.true);
-      outlets = subst (λ (l : Linear). c.args.bit.chain < l.outlets) same
-          (subst (λ (n : ℕ). c.args.bit.chain < n) c.outlets.ensures c.if-bit-outlets.false);
-      span = subst (λ (l : Linear). l.channels * c.cycle_of-cycle.result ≤ 256) same
-          (cycles_few c.channels-channels.result m c.args.frame c.cycle_of-cycle.result c.channels-channels.ensures (omega arith)
-          c.in_ok-check.ensures);
-    }
+-- an accepted result holds one value
+same_accepted : {X E : Type 0} (x y : X) → ◌≡◌ {A = Result X E} (Ok x) (Ok y) → x ≡ y
+same_accepted x y h = cc
 
 pub loop-channel-preserved : goal.loop-channel-preserved
 loop-channel-preserved g c =
     let m = g.M.Machine.meaning c.args.machine.now in
-    let t = c.cycle_of-cycle.result in (
+    let k = c.loop-channel.channel in
+    let chain = c.args.bit.chain in
+    let t = cycles c.args.frame - c.args.bit.position in
+    let few : m.channels * t ≤ 256 = grind (arith, common_steps) in (
       c.respond-more.ensures.same ∙ c.loop-channel.invariant.0,
-      channel_more m (g.met.M.Machine.superposition c.args.machine.now) c.loop-channel.channel t c.args.bit.chain
-          c.loop-channel.coefficients c.respond-more.result (g.met.M.Machine.counted c.args.machine.now).channels_some
-          (cycles_few c.channels-channels.result m c.args.frame t c.channels-channels.ensures (omega arith) c.in_ok-check.ensures)
-          c.loop-channel.invariant.1
+      c.loop-channel.invariant.1,
+      channel_more m (g.met.M.Machine.superposition c.args.machine.now) k t chain c.loop-channel.coefficients c.respond-more.result
+          (g.met.M.Machine.counted c.args.machine.now).channels_some few c.loop-channel.invariant.2
           (c.respond-more.ensures.coefficients
-          ∙ ap (λ (l : Linear). responded l c.loop-channel.channel t c.args.bit.chain (words_row c.loop-channel.coefficients)) c.loop-channel.invariant.0),
+          ∙ ap₂ (λ (l : Linear) (n : ℕ). responded l k n chain (words_row c.loop-channel.coefficients)) c.loop-channel.invariant.0 c.loop-channel.invariant.1),
     )
 
-pub returns : goal.returns
-returns g c =
+pub returns-clause-equation : goal.returns-clause-equation
+returns-clause-equation g c =
     let m = g.M.Machine.meaning c.args.machine.now in
-    let t = c.cycle_of-cycle.result in
+    let f = c.args.frame in
+    let bit = c.args.bit in
+    let t = cycles f - bit.position in
     let some = (g.met.M.Machine.counted c.args.machine.now).channels_some in
-    let chain = subst (λ (n : ℕ). c.args.bit.chain < n) c.outlets.ensures c.if-bit-outlets.false in
-    let whole : c.loop-channel.channel ≡ c.channels-channels.result = omega arith in
-    record {
-      same = c.reset.ensures.same ∙ c.loop-channel.invariant.0;
-      answer = bit_accepted c.channels-channels.result m c.args.frame c.args.bit c.channels-channels.ensures chain c.if-bit-frame.false
-          c.in_ok-check.ensures;
-      cells = c.reset.ensures.after;
-      equation = λ e is. subst (λ (q : Equation). EquationOf m c.args.frame c.args.bit q) (same_accepted _ e is)
-          (equation_stands m (g.met.M.Machine.superposition c.args.machine.now) c.args.frame c.args.bit _ some c.if-bit-frame.false
-          (c.loop-channel.invariant.1 ∙ ap (λ (k : ℕ). below m k t c.args.bit.chain) (whole ∙ c.channels-channels.ensures)
-          ∙ below_all m t c.args.bit.chain some ∙ ap (λ (n : ℕ). response m n c.args.bit.chain) c.cycle_of-cycle.ensures)
-          refl);
-    }
+    let position : bit.position < f.shifts = omega arith in
+    let all : c.loop-channel.channel ≡ m.channels = grind (arith, nat_tests) in
+    let stands = equation_stands m (g.met.M.Machine.superposition c.args.machine.now) f bit _ some position
+    (c.loop-channel.invariant.2 ∙ ap (λ (k : ℕ). below m k t bit.chain) all ∙ below_all m t bit.chain some) refl in
+    λ e is. subst (λ (q : Equation). EquationOf m f bit q) (same_accepted _ e is) stands
