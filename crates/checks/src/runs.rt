@@ -145,10 +145,7 @@ fn by_hand<M: Machine>(
     for digits in digits.chunks_exact(channels) {
         run.shift(machine, word(digits), words)?;
     }
-    match run.close() {
-        Ok(loaded) => Ok(loaded),
-        Err(back) => Err(back.1),
-    }
+    Ok(run.close()?)
 }
 
 // Digits without a short period.
@@ -245,13 +242,11 @@ fn cycles_one_by_one(rt: HostRuntime) -> Result<(), Fail> {
         refused_shift(&rt, &mut run, &mut ring, &mut [0; 1]),
         Some(13)
     );
-    let mut run = match run.close() {
-        Ok(_) => return Err(Fail::new("closed with a cycle left")),
-        Err(back) => {
-            assert_eq!(rt; back.1.number(), 15);
-            back.0
-        }
+    let Err(back) = run.close() else {
+        return Err(Fail::new("closed with a cycle left"));
     };
+    assert_eq!(rt; back.refusal.number(), 15);
+    let mut run = back.value;
     run.shift(&mut ring, 0, &mut words)?;
     assert_eq!(rt; words[0], ring.read());
     assert_eq!(rt; words[1], 0b1011);
@@ -276,17 +271,14 @@ fn unloading_from_the_top(rt: HostRuntime) -> Result<(), Fail> {
         shifts: 2,
     };
     let loaded = replay(&mut ring, frame, b"0011", &mut [0; 2])?;
-    let loaded = match loaded.capture(&[0; 2], &[0; 1]) {
-        Ok(_) => return Err(Fail::new("captured without marks")),
-        Err(back) => {
-            assert_eq!(rt; back.1.number(), 13);
-            back.0
-        }
+    let Err(back) = loaded.capture(&[0; 2], &[0; 1]) else {
+        return Err(Fail::new("captured without marks"));
     };
-    let mut captured = match loaded.capture(&[1, 2, 3], &[0, 0]) {
-        Ok(captured) => captured,
-        Err(_) => return Err(Fail::new("not captured")),
-    };
+    assert_eq!(rt; back.refusal.number(), 13);
+    let mut captured = back
+        .value
+        .capture(&[1, 2, 3], &[0, 0])
+        .map_err(Refusal::from)?;
     assert_eq!(rt; number(captured.unload(&[1], &[0, 0])), Some(13));
     assert_eq!(rt; number(captured.unload(&[1, 2], &[0])), Some(13));
     assert_eq!(rt;
@@ -310,10 +302,7 @@ fn unloading_256_positions(rt: HostRuntime) -> Result<(), Fail> {
         shifts: 256,
     };
     let loaded = replay(&mut ring, frame, &[b'1'; 256], &mut [0; 256])?;
-    let mut captured = match loaded.capture(&[3; 256], &[1; 256]) {
-        Ok(captured) => captured,
-        Err(_) => return Err(Fail::new("not captured")),
-    };
+    let mut captured = loaded.capture(&[3; 256], &[1; 256]).map_err(Refusal::from)?;
     for _ in 0..256 {
         assert_eq!(rt; captured.unload(&[3; 256], &[1; 256])?, (2, 1));
     }

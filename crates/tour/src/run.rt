@@ -3,6 +3,7 @@ use crate::digits::{chain_digits, pair_digits};
 use crate::machines::ring_of_four;
 use anyhow::anyhow;
 use patterns::replay;
+use refusals::Refusal;
 use scan::{CareBit, Frame, Loaded};
 
 // The response of the logic, a word for each position, chain c in bit c; chain 2 is unknown at position 1.
@@ -49,10 +50,7 @@ pub(crate) fn show_response(rt: &HostRuntime) -> anyhow::Result<()> {
 // Captures the response and unloads it, until no cycle is left.
 pub(crate) fn unload_response(rt: &HostRuntime, loaded: Loaded) -> anyhow::Result<()> {
     println!(rt; "It is captured. Unloading begins with the highest position:")?;
-    let mut captured = match loaded.capture(&VALUES, &UNKNOWNS) {
-        Ok(captured) => captured,
-        Err(back) => return Err(back.1.into()),
-    };
+    let mut captured = loaded.capture(&VALUES, &UNKNOWNS).map_err(Refusal::from)?;
     for cycle in 1..3 {
         let pair = captured.unload(&VALUES, &UNKNOWNS)?;
         let text = pair_digits(rt.alloc(), pair, 4)?;
