@@ -1,6 +1,7 @@
 -- An equation reduced row by row, and what it then says of the solutions.
 use Rattle.std.proofs.Common.{◌≡◌, ℕ, ◌+◌, ◌-◌, ◌^◌, ◌<◌, ◌≤◌, Bool, true, false, ◌&&◌, List, [], ◌∷◌, ◌++◌, length, take, set, Some, None, Option, sym, refl, ap, ◌∙◌, ap₂, inl, inr, arith}
 use mathlib.Core.Bool.{beq, and-true, and-false}
+use Rattle.std.proofs.Math.Bool.{and_assoc}
 use Rattle.std.proofs.lemmas.List.{take_more, take_more_set, length-set}
 use Rattle.std.proofs.lemmas.Bool.{both_ways, cases_eq, cases_lt, and_parts, lt-ltb}
 use Rattle.bits.specs.Lists.{row_of}
@@ -47,11 +48,7 @@ holds_sum a b r x cs rs h =
 
 pub solves_push : (es : List Equation) (e : Equation) (x : Row) → solves (es ++ (e ∷ [])) x ≡ (solves es x && holds e x)
 solves_push [] e x = and-true (holds e x)
-solves_push (a ∷ es) e x = ap (λ (b : Bool). holds a x && b) (solves_push es e x) ∙ regroup (holds a x) (solves es x) (holds e x)
-  where
-    regroup : (a b c : Bool) → (a && (b && c)) ≡ ((a && b) && c)
-    regroup true b c = refl
-    regroup false b c = refl
+solves_push (a ∷ es) e x = ap (λ (b : Bool). holds a x && b) (solves_push es e x) ∙ sym (and_assoc (holds a x) (solves es x) (holds e x))
 
 -- a row has none of the leads before it
 pub clear_of : (rows : List Equation) (n j k u : ℕ) → Clear rows n → j < k → k < n → lead_of (row_at rows j) ≡ Some u → coefficients_of (row_at rows k) u ≡ false

@@ -1,6 +1,7 @@
 -- Systems in which each variable is free or told by those before it: how many rows fit, and which is the first.
 use Rattle.std.proofs.Common.{◌≡◌, ℕ, zero, suc, ◌+◌, ◌^◌, ◌<◌, ◌≤◌, Bool, true, false, cond, not, ◌&&◌, List, [], ◌∷◌, ◌++◌, length, Some, sym, refl, ap, ◌∙◌, ap₂, inl, inr, pow-suc, arith}
 use mathlib.Core.Bool.{beq, and-true, and-false}
+use Rattle.std.proofs.Math.Bool.{and_assoc, and_comm}
 use Rattle.std.proofs.lemmas.List.{get_or_append_left, get_or_at}
 use Rattle.std.proofs.lemmas.Bool.{false≢true, cases_eq, and_left}
 use Rattle.bits.specs.Lists.{row_of, list_of}
@@ -79,21 +80,11 @@ module _ (o more : ℕ → Bool) where
   every_more v was other (suc n) h =
       elim (cases_eq n v) [
         | inl e ↦ (
-            ap₂ ◌&&◌ (every_same n (λ i l. other i (λ z. omega arith))) (ap more e) ∙ flip (every o n) (more v)
+            ap₂ ◌&&◌ (every_same n (λ i l. other i (λ z. omega arith))) (ap more e) ∙ and_comm (every o n) (more v)
             ∙ ap (λ (b : Bool). more v && b) (sym (and-true (every o n)) ∙ ap (λ (b : Bool). every o n && b) (sym was ∙ ap o (sym e))))
         | inr ne ↦ (
             ap₂ ◌&&◌ (every_more v was other n (omega arith)) (other n ne) ∙ and_assoc (more v) (every o n) (o n))
       ]
-    where
-      flip : (a b : Bool) → (a && b) ≡ (b && a)
-      flip true true = refl
-      flip true false = refl
-      flip false true = refl
-      flip false false = refl
-
-      and_assoc : (a b c : Bool) → ((a && b) && c) ≡ (a && (b && c))
-      and_assoc true b c = refl
-      and_assoc false b c = refl
 
 -- `told` says which variables are told, and `value` by which bit
 module _ (told : ℕ → Bool) (value : ℕ → Row → Bool) where

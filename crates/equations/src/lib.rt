@@ -13,7 +13,7 @@ pub use words::{has_bit, product, with_bit};
 use words::{last_bit, sum};
 
 // The coefficients of variables 0 to 255, variable i in bit i % 64 of word i / 64, and the right side.
-#[derive(Clone, Copy)]
+#[derive(Clone, Copy, Default)]
 pub struct Equation {
     pub coefficients: [u64; 4],
     pub right: bool,

@@ -4,12 +4,12 @@ ghost use Rattle.bits.specs.Rows.{plus, upto};
 ghost use Rattle.equations.specs.Equations.{words_row, dot, last_bit};
 
 use bits::{has, parity};
+use std::array;
 
 // The words with a bit set at that place if `bit` says so; from place 256 on there is none to set.
-pub fn with_bit(words: [u64; 4], place: usize, bit: bool) -> [u64; 4]
+pub fn with_bit(mut words: [u64; 4], place: usize, bit: bool) -> [u64; 4]
     ensures { words_row result ≡ upto 256 (λ i. words_row words i || (place == i && bit)) }
 {
-    let mut words = words;
     if place < 256 {
         words[place / 64] |= (bit as u64) << (place % 64);
     }
@@ -27,24 +27,20 @@ pub fn has_bit(words: [u64; 4], place: usize) -> bool
 pub(crate) fn sum(a: [u64; 4], b: [u64; 4]) -> [u64; 4]
     ensures { words_row result ≡ plus (words_row a) (words_row b) }
 {
-    [a[0] ^ b[0], a[1] ^ b[1], a[2] ^ b[2], a[3] ^ b[3]]
+    array::from_fn(|w| a[w] ^ b[w])
 }
 
 // The sum of the bits that two rows have in common.
 pub fn product(a: [u64; 4], b: [u64; 4]) -> bool
     ensures { result ≡ dot (words_row a) (words_row b) }
 {
-    parity(a[0] & b[0] ^ a[1] & b[1] ^ a[2] & b[2] ^ a[3] & b[3])
+    parity(a.iter().zip(&b).fold(0, |sum, (x, y)| sum ^ x & y))
 }
 
 // The highest place that has a bit.
 pub(crate) fn last_bit(words: [u64; 4]) -> Option<usize>
     ensures { result ≡ last_bit (words_row words) }
 {
-    for w in (0..4).rev() {
-        if words[w] != 0 {
-            return Some(64 * w + 63 - words[w].leading_zeros() as usize);
-        }
-    }
-    None
+    let w = words.iter().rposition(|word| *word != 0)?;
+    Some(64 * w + 63 - words[w].leading_zeros() as usize)
 }
