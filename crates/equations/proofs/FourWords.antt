@@ -86,12 +86,6 @@ module _ (words : List ℕ) (p : ℕ) (b : Bool) (four : length words ≡ 4) (h 
       same_upto 256 _ _ (λ i l. with_at i (cases_eq (i / 64) (p / 64)))
       (λ i l. ap (λ (w : ℕ). bit_of w (i % 64)) (other_word i (λ z. omega arith)) ∙ words_past words four i l)
 
--- nothing is set past the words
-pub words_without : (words : List ℕ) (p : ℕ) (b : Bool) → length words ≡ 4 → 256 ≤ p → words_row words ≡ upto 256 (λ i. words_row words i || (eqb p i && b))
-words_without words p b four h =
-    same_upto 256 _ _ (λ i l. sym (ap (λ (x : Bool). words_row words i || (x && b)) (ne_eqb p i (λ z. omega arith)) ∙ or-false (words_row words i)))
-    (words_past words four)
-
 -- a sum in two parts
 sum_parts : (n m : ℕ) (s : Row) → sum_of (m + n) s ≡ xor (sum_of n s) (sum_of m (λ i. s (n + i)))
 sum_parts n zero s = ap (λ (k : ℕ). sum_of k s) (zero-add n) ∙ sym (xor_false (sum_of n s))
