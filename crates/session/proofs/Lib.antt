@@ -5,4 +5,3 @@ pub mod Entering
 pub mod Openings
 pub mod Proposals
 pub mod Solving
-pub mod Readout

@@ -1,6 +1,6 @@
 -- A session just opened, and what its free count says.
-use Rattle.std.proofs.Common.{◌≡◌, ℕ, ◌≤◌, Bool, true, false, ltb, [], is_ok, Ok, Err, refl, ap, ◌∙◌, arith}
-use Rattle.equations.proofs.Solved.{system_number, system_few}
+use Rattle.std.proofs.Common.{◌≡◌, ℕ, Bool, true, false, ltb, [], is_ok, Ok, Err, refl, ap, ◌∙◌, arith}
+use Rattle.equations.proofs.Solved.{system_number}
 use Rattle.machine.specs.Linear.{Linear}
 use Rattle.refusals.specs.declared.Refusal.{Refusal}
 use Rattle.refusals.specs.declared.Refusal.TheVariants.{OutOfRange, TooMany}
@@ -65,9 +65,3 @@ module _ (t : EquationTable) (n : ℕ) where
       let long = t.long in
       let room = t.room in
       system_number (variables t.channels t.frame) t.rows n (omega arith) (λ k h. t.led k (omega arith)) (λ j k l h. t.apart j k l (omega arith))
-
-  pub few : n ≤ t.written → n ≤ variables t.channels t.frame
-  few up =
-      let long = t.long in
-      let room = t.room in
-      system_few (variables t.channels t.frame) t.rows n (omega arith) (λ k h. t.led k (omega arith)) (λ j k l h. t.apart j k l (omega arith))

@@ -3,3 +3,5 @@ pub mod Sessions
 pub mod Views
 pub mod Dialogues
 pub mod Leaders
+pub mod Judgements
+pub mod Lent

@@ -2,6 +2,7 @@
 #![tactic(auto)]
 
 mod counter;
+mod in_force;
 mod opening;
 mod readings;
 mod table;

@@ -9,6 +9,7 @@ ghost use Rattle.session.specs.Views.{session_of};
 
 use crate::counter::EquationCounter;
 use crate::table::EquationTable;
+use bits::digit;
 use equations::has_bit;
 use refusals::Refusal;
 
@@ -18,26 +19,15 @@ pub fn free_count(table: &EquationTable, counter: &EquationCounter) -> Result<us
     ensures halved { Halved (session_of table.now counter.now) }
     ensures truly { FreeTruly (session_of table.now counter.now) result }
 {
-    if counter.count > table.written {
-        return Err(Refusal::CounterAhead);
-    }
-    Ok(table.variables() - counter.count)
+    Ok(table.in_force(counter)?.free())
 }
 
-// A bit as a digit.
-fn digit(bit: bool) -> u8
-    ensures { result ≡ digit_of bit }
+// Writes the first bits over memory, as many as it has room for.
+fn write_digits(words: [u64; 4], digits: &mut [u8])
+    ensures { digits.new ≡ digits_of (length digits.old) (words_row words) }
 {
-    if bit { b'1' } else { b'0' }
-}
-
-// Writes the first `count` bits over the beginning of memory.
-fn write_digits(words: [u64; 4], count: usize, digits: &mut [u8])
-    requires { count ≤ length digits.old }
-    ensures { digits.new ≡ digits_of count (words_row words) ++ drop count digits.old }
-{
-    for i in 0..count {
-        digits[i] = digit(has_bit(words, i));
+    for (i, place) in digits.iter_mut().enumerate() {
+        *place = digit(has_bit(words, i));
     }
 }
 
@@ -53,13 +43,10 @@ pub fn read_pattern(
     ensures halved { Halved (session_of table.now counter.now) }
     ensures truly { ReadTruly (session_of table.now counter.now) digits.old result digits.new }
 {
-    if counter.count > table.written {
-        return Err(Refusal::CounterAhead);
-    }
-    let variables = table.variables();
-    if digits.len() < variables {
+    let in_force = table.in_force(counter)?;
+    if digits.len() < in_force.variables {
         return Err(Refusal::MemoryTooShort);
     }
-    write_digits(table.first_solution(counter.count), variables, digits);
+    write_digits(in_force.first_solution(), &mut digits[..in_force.variables]);
     Ok(())
 }

@@ -3,11 +3,9 @@ ghost use Rattle.equations.specs.Systems.{Led, Apart, Clear};
 ghost use Rattle.scan.specs.Frames.{variables};
 
 mod clear;
-mod enter;
+mod in_force;
 mod make;
-mod reduce;
 mod size;
-mod solve;
 mod write;
 
 use equations::Equation;

@@ -14,11 +14,8 @@ impl Drop for Trial<'_> {
     fn drop(self)
         ensures { self.exit.0.now.count ≡ self.entry.found }
     {
-        self.counter.count = self.found;
-        let Trial {
-            counter: _,
-            found: _,
-        } = self;
+        let Trial { counter, found } = self;
+        counter.count = found;
     }
 }
 

@@ -12,12 +12,8 @@ impl EquationTable {
         ensures channels { result.channels ≡ 0 }
         ensures outlets { result.outlets ≡ 0 }
     {
-        let blank = Equation {
-            coefficients: [0; 4],
-            right: false,
-        };
         EquationTable {
-            rows: [blank; 256],
+            rows: [Equation::default(); 256],
             written: 0,
             frame: Frame {
                 warmup: 0,

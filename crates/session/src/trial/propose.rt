@@ -26,16 +26,16 @@ impl Trial<'_> {
         ensures proposed { Proposed (M.meaning machine.old) (session_of table.old self.old.counter.now) bit result (session_of table.new self.new.counter.now) }
         ensures truly { ToldTruly (M.meaning machine.old) (session_of table.old self.old.counter.now) bit result (session_of table.new self.new.counter.now) }
     {
-        let count = self.counter.count;
-        if count > table.written {
-            return Err(Refusal::CounterAhead);
-        }
+        let in_force = table.in_force(self.counter)?;
         if machine.channels() != table.channels || machine.outlets() != table.outlets {
             return Err(Refusal::OutOfRange);
         }
         let equation = equation_of(machine, table.frame, bit)?;
-        let fall = table.enter(count, equation)?;
-        self.counter.count = count + fall;
-        Ok(fall)
+        let Some(row) = in_force.weigh(equation)? else {
+            return Ok(0);
+        };
+        table.write(self.counter.count, row);
+        self.counter.count += 1;
+        Ok(1)
     }
 }
