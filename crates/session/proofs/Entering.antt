@@ -58,7 +58,7 @@ none_pass false q h = refl
 -- an equation beside the first n rows of a table
 module _ (t : EquationTable) (n : ℕ) (e : Equation) (up : n ≤ t.written) where
   abbrev vars : ℕ
-  vars = variables t.channels t.frame
+  vars = variables t.fit.channels t.fit.frame
 
   abbrev bit : Test
   bit x = holds e (row_of x)
@@ -118,8 +118,7 @@ module _ (t : EquationTable) (n : ℕ) (e : Equation) (up : n ≤ t.written) whe
     }
 
     -- it is written
-    module _ (u : EquationTable) (rows : u.rows ≡ set t.rows n r) (written : u.written ≡ n + 1) (frame : u.frame ≡ t.frame)
-        (channels : u.channels ≡ t.channels) (outlets : u.outlets ≡ t.outlets) where
+    module _ (u : EquationTable) (rows : u.rows ≡ set t.rows n r) (written : u.written ≡ n + 1) (fit : u.fit ≡ t.fit) where
       place : n < length t.rows
       place = let h = u.room in let l = t.long in omega arith
 
@@ -134,7 +133,7 @@ module _ (t : EquationTable) (n : ℕ) (e : Equation) (up : n ≤ t.written) whe
           sym (weighed_fewer _ _ (omega arith) (omega arith))
 
       same : session_at u (n + 1) ≡ with_row (session_at t n) r
-      same = simp (rows, written, frame, channels, outlets)
+      same = simp (rows, written, fit)
 
       pub new_after : After (session_at t n) bit (Ok 1) (session_at u (n + 1))
       new_after =

@@ -1,13 +1,12 @@
 -- The digits of an injection that loads bits can be replayed, and load them.
 use Rattle.std.proofs.Common.{◌≡◌, ℕ, zero, suc, ◌≤◌, Bool, true, false, not, ltb, List, [], ◌∷◌, map, length, is_ok, Ok, refl, ap, ◌∙◌}
 use Rattle.std.proofs.lemmas.List.{length-map}
-use Rattle.std.proofs.lemmas.Bool.{false≢true, and_parts, eq-eqb, lt-ltb, cond-true, cond-false}
+use Rattle.std.proofs.lemmas.Bool.{false≢true, and_parts, eq-eqb, lt-ltb, le-ltb, cond-true, cond-false}
 use Rattle.bits.specs.Digits.{digit_of, all_digits, digit_row}
 use Rattle.bits.specs.Lists.{row_of}
 use Rattle.bits.specs.Rows.{Row}
 use Rattle.bits.proofs.Sums.{ext}
 use Rattle.machine.specs.Linear.{Linear}
-use Rattle.patterns.proofs.Replays.{Passed, replays}
 use Rattle.patterns.proofs.Runs.{holds_its_load}
 use Rattle.refusals.specs.declared.Refusal.TheVariants.{OutOfRange, TooMany}
 use Rattle.refusals.specs.Chains.{refused_if}
@@ -63,8 +62,10 @@ module _ (m : Linear) (f : Frame) (x : List Bool) (size : length x ≡ variables
       let ok = accepted_parts m.channels f accepted in
       record {
         short = λ b h. cond-false _ _ _ ok.0 ∙ cond-false _ _ _ (ap not (eq-eqb _ _ many)) ∙ cond-false _ _ _ ok.1 ∙ cond-true _ _ _ (lt-ltb _ _ h);
-        loads = λ b room.
-            let passed : Passed m.channels f (map digit_of x) (length b.memory) =
-            record { limits = ok.0; count = many; few = ok.1; room = room; good = digits_good x } in
-            (_, replays m f (map digit_of x) b passed, all_in bits b.memory room ranged all);
+        loads = λ b room. (
+          _,
+          cond-false _ _ _ ok.0 ∙ cond-false _ _ _ (ap not (eq-eqb _ _ many)) ∙ cond-false _ _ _ ok.1 ∙ cond-false _ _ _ (le-ltb _ _ room)
+              ∙ cond-false _ _ _ (ap not (digits_good x)),
+          all_in bits b.memory room ranged all,
+        );
       }

@@ -14,6 +14,7 @@ use Rattle.refusals.specs.Chains.{refused_if}
 use Rattle.responses.specs.Ranges.{is_in_range, in_chains}
 use Rattle.responses.specs.Responses.{EquationOf}
 use Rattle.scan.specs.declared.care.CareBit.{CareBit}
+use Rattle.scan.specs.declared.frame.Frame.{Frame}
 use Rattle.scan.specs.Frames.{span, variables, out_of_limits, in_limits, in_span}
 use Rattle.session.specs.declared.in_force.InForce.{InForce}
 use Rattle.session.specs.declared.table.EquationTable.{EquationTable}
@@ -32,12 +33,13 @@ truly m s b r t p bits st = propose_true m s.frame s bits st b r t p
 
 -- a proposal on a machine like the one at the opening, whose bit is in range: the equations in force are lent, and the bit has its equation
 module _ (m : Linear) (t : EquationTable) (n : ℕ) (b : CareBit) (s : InForce) (lent : Lent t n (Ok s)) (like : is_like m (session_at t n) ≡ true)
-    (accepted : Ok (tt {0}) ≡ in_limits t.frame (in_span m.channels t.frame (in_chains m t.frame b (Ok (tt {0}))))) (e : Equation) (is : EquationOf m t.frame b e) where
-  channels : m.channels ≡ t.channels
-  channels = eqb-true m.channels t.channels (and_parts (eqb m.channels t.channels) (eqb m.outlets t.outlets) like).0
+    (f : Frame) (same_frame : f ≡ t.fit.frame) (accepted : Ok (tt {0}) ≡ in_limits f (in_span m.channels f (in_chains m f b (Ok (tt {0})))))
+    (e : Equation) (is : EquationOf m f b e) where
+  channels : m.channels ≡ t.fit.channels
+  channels = eqb-true m.channels t.fit.channels (and_parts (eqb m.channels t.fit.channels) (eqb m.outlets t.fit.outlets) like).0
 
-  within_range : is_in_range m t.frame b ≡ true
-  within_range = go (out_of_limits t.frame) (ltb 256 (span m.channels t.frame)) (is_in_range m t.frame b) accepted
+  within_range : is_in_range m t.fit.frame b ≡ true
+  within_range = subst (λ (g : Frame). is_in_range m g b ≡ true) same_frame (go (out_of_limits f) (ltb 256 (span m.channels f)) (is_in_range m f b) accepted)
     where
       go : (p q r : Bool) → Ok (tt {0}) ≡ refused_if p OutOfRange (refused_if q TooMany (refused_if (not r) OutOfRange (Ok (tt {0})))) → r ≡ true
       go p q true h = refl
@@ -48,14 +50,17 @@ module _ (m : Linear) (t : EquationTable) (n : ℕ) (b : CareBit) (s : InForce) 
   passes_to : (r : Result ℕ Refusal) → proposable m (session_at t n) b r ≡ r
   passes_to r = cond-false _ _ _ (le-ltb t.written n lent.0) ∙ cond-false _ _ _ (ap not like) ∙ cond-false _ _ _ (ap not within_range)
 
-  same_test : (x : List Bool) → length x ≡ variables t.channels t.frame
-      → both (in_force (session_at t n)) (λ y. holds e (row_of y)) x ≡ both (in_force (session_at t n)) (loading m t.frame b) x
-  same_test x l = ap (λ (p : Bool). in_force (session_at t n) x && p) (let k = t.few in is.told x (omega arith))
+  equation : EquationOf m t.fit.frame b e
+  equation = subst (λ (g : Frame). EquationOf m g b e) same_frame is
+
+  same_test : (x : List Bool) → length x ≡ variables t.fit.channels t.fit.frame
+      → both (in_force (session_at t n)) (λ y. holds e (row_of y)) x ≡ both (in_force (session_at t n)) (loading m t.fit.frame b) x
+  same_test x l = ap (λ (p : Bool). in_force (session_at t n) x && p) (let k = t.fit.few in equation.told x (omega arith))
 
   in_proposed : (r : Result ℕ Refusal) (u : Session) → r ≡ judging (session_at t n) (λ x. holds e (row_of x))
       → After (session_at t n) (λ x. holds e (row_of x)) r u → Proposed m (session_at t n) b r u
   in_proposed r u judged after = record {
-    answer = judged ∙ ap (weighed (number (variables t.channels t.frame) (in_force (session_at t n)))) (number_same (variables t.channels t.frame) _ _ same_test) ∙ sym (passes_to _);
+    answer = judged ∙ ap (weighed (number (variables t.fit.channels t.fit.frame) (in_force (session_at t n)))) (number_same (variables t.fit.channels t.fit.frame) _ _ same_test) ∙ sym (passes_to _);
     after = record {
       unchanged = after.unchanged;
       written = after.written;
@@ -63,8 +68,8 @@ module _ (m : Linear) (t : EquationTable) (n : ℕ) (b : CareBit) (s : InForce) 
     };
   }
 
-  within : Within (variables t.channels t.frame) e
-  within i h l = is.past i (subst (λ (k : ℕ). variables k t.frame ≤ i) (sym channels) h)
+  within : Within (variables t.fit.channels t.fit.frame) e
+  within i h l = equation.past i (subst (λ (k : ℕ). variables k t.fit.frame ≤ i) (sym channels) h)
 
   -- the equation follows from those in force, or contradicts them
   pub follows : (o : Option Equation) → o ≡ None → Judged s.variables s.rows.now e (Ok o) → Proposed m (session_at t n) b (Ok 0) (session_at t n)
@@ -79,14 +84,14 @@ module _ (m : Linear) (t : EquationTable) (n : ℕ) (b : CareBit) (s : InForce) 
 
   -- or is new
   module _ (o : Option Equation) (r : Equation) (some : o ≡ Some r) (judged : Judged s.variables s.rows.now e (Ok o)) where
-    new : Judged (variables t.channels t.frame) (take n t.rows) e (Ok (Some r))
+    new : Judged (variables t.fit.channels t.fit.frame) (take n t.rows) e (Ok (Some r))
     new = of_lent t n e lent.0 s (Ok (Some r)) lent (subst (λ (p : Option Equation). Judged s.variables s.rows.now e (Ok p)) some judged)
 
     pub clear_of_them : ClearOf t.rows n r
     clear_of_them = (reduced t n e lent.0 r within new).clear
 
-    pub enters : (u : EquationTable) → u.rows ≡ set t.rows n r → u.written ≡ n + 1 → u.frame ≡ t.frame → u.channels ≡ t.channels → u.outlets ≡ t.outlets
+    pub enters : (u : EquationTable) → u.rows ≡ set t.rows n r → u.written ≡ n + 1 → u.fit ≡ t.fit
         → Proposed m (session_at t n) b (Ok 1) (session_at u (n + 1))
-    enters u rows written frame channels outlets =
-        in_proposed (Ok 1) (session_at u (n + 1)) (new_answer t n e lent.0 r within new u rows written frame channels outlets)
-        (new_after t n e lent.0 r within new u rows written frame channels outlets)
+    enters u rows written fit =
+        in_proposed (Ok 1) (session_at u (n + 1)) (new_answer t n e lent.0 r within new u rows written fit)
+        (new_after t n e lent.0 r within new u rows written fit)

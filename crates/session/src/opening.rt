@@ -9,7 +9,7 @@ use crate::counter::EquationCounter;
 use crate::table::EquationTable;
 use machine::Machine;
 use refusals::Refusal;
-use scan::Frame;
+use scan::{Fit, Frame};
 
 // Opens a session on a machine: it is reset, nothing is written, and no bit stands. A refusal leaves all as it was.
 //
@@ -27,10 +27,9 @@ pub fn open_session<M: Machine>(
     ensures stands { is_ok result ≡ true → Stands (M.meaning machine.old) frame (session_of table.new counter.new) [] }
     ensures lists { is_ok result ≡ true → EveryListIsAnsweredTruly (M.meaning machine.old) frame (session_of table.new counter.new) }
 {
-    let channels = machine.channels();
-    frame.check(channels)?;
+    let fit = Fit::of(machine, frame)?;
     machine.reset();
-    table.clear(frame, channels, machine.outlets());
+    table.clear(fit);
     counter.count = 0;
     Ok(())
 }

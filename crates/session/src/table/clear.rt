@@ -1,24 +1,16 @@
-ghost use Rattle.std.specs.Prelude.{◌≡◌, ◌≤◌};
-ghost use Rattle.scan.specs.Frames.{variables};
+ghost use Rattle.std.specs.Prelude.{◌≡◌};
 
 use crate::table::EquationTable;
-use scan::Frame;
+use scan::Fit;
 
 impl EquationTable {
-    // Nothing is written; the numbers are those of the opening.
-    pub(crate) fn clear(&mut self, frame: Frame, channels: usize, outlets: usize)
-        requires warmup { frame.warmup ≤ 64 }
-        requires shifts { frame.shifts ≤ 256 }
-        requires few { variables channels frame ≤ 256 }
+    // Nothing is written; the fit is that of the opening.
+    pub(crate) fn clear(&mut self, fit: Fit)
         ensures rows { self.new.rows ≡ self.old.rows }
         ensures written { self.new.written ≡ 0 }
-        ensures frame { self.new.frame ≡ frame }
-        ensures channels { self.new.channels ≡ channels }
-        ensures outlets { self.new.outlets ≡ outlets }
+        ensures fit { self.new.fit ≡ fit }
     {
         self.written = 0;
-        self.frame = frame;
-        self.channels = channels;
-        self.outlets = outlets;
+        self.fit = fit;
     }
 }

@@ -15,7 +15,7 @@ impl EquationTable {
             .ok_or(Refusal::CounterAhead)?;
         Ok(InForce {
             rows,
-            variables: self.variables(),
+            variables: self.fit.variables(),
         })
     }
 }

@@ -1,26 +1,21 @@
-ghost use Rattle.std.specs.Prelude.{◌≡◌, length};
+ghost use Rattle.std.specs.Prelude.{◌≡◌};
+ghost use Rattle.scan.specs.Fits.{no_fitting};
+ghost use Rattle.scan.specs.Views.{fitting_of};
 
 use crate::table::EquationTable;
 use equations::Equation;
-use scan::Frame;
+use scan::Fit;
 
 impl EquationTable {
     // A table that was never opened: nothing is written, and there are no channels, outlets or variables.
     pub fn new() -> EquationTable
         ensures written { result.written ≡ 0 }
-        ensures frame { result.frame ≡ record { warmup = 0; shifts = 0 } }
-        ensures channels { result.channels ≡ 0 }
-        ensures outlets { result.outlets ≡ 0 }
+        ensures fit { fitting_of result.fit ≡ no_fitting }
     {
         EquationTable {
             rows: [Equation::default(); 256],
             written: 0,
-            frame: Frame {
-                warmup: 0,
-                shifts: 0,
-            },
-            channels: 0,
-            outlets: 0,
+            fit: Fit::none(),
         }
     }
 }

@@ -2,6 +2,7 @@ ghost use Rattle.std.specs.Prelude.{◌≡◌, ◌+◌, ◌≤◌, true, slice_s
 ghost use Rattle.equations.specs.Equations.{lead_of};
 ghost use Rattle.equations.specs.Systems.{is_below, ClearOf};
 ghost use Rattle.scan.specs.Frames.{variables};
+ghost use Rattle.scan.specs.Views.{fitting_of};
 
 use crate::table::EquationTable;
 use equations::Equation;
@@ -10,13 +11,11 @@ impl EquationTable {
     // Writes an equation in place into the row after the first `count`; it is then the last written.
     pub(crate) fn write(&mut self, count: usize, equation: Equation)
         requires written { count ≤ self.old.written }
-        requires lead { is_below (variables self.old.channels self.old.frame) (lead_of equation) ≡ true }
+        requires lead { is_below (variables (fitting_of self.old.fit).channels (fitting_of self.old.fit).frame) (lead_of equation) ≡ true }
         requires clear { ClearOf self.old.rows count equation }
         ensures rows { self.new.rows ≡ slice_set self.old.rows count equation }
         ensures written { self.new.written ≡ count + 1 }
-        ensures frame { self.new.frame ≡ self.old.frame }
-        ensures channels { self.new.channels ≡ self.old.channels }
-        ensures outlets { self.new.outlets ≡ self.old.outlets }
+        ensures fit { self.new.fit ≡ self.old.fit }
     {
         let row = &mut self.rows[count];
         *row = equation;

@@ -27,10 +27,10 @@ impl Trial<'_> {
         ensures truly { ToldTruly (M.meaning machine.old) (session_of table.old self.old.counter.now) bit result (session_of table.new self.new.counter.now) }
     {
         let in_force = table.in_force(self.counter)?;
-        if machine.channels() != table.channels || machine.outlets() != table.outlets {
+        if !table.fit.suits(machine) {
             return Err(Refusal::OutOfRange);
         }
-        let equation = equation_of(machine, table.frame, bit)?;
+        let equation = equation_of(machine, table.fit.frame(), bit)?;
         let Some(row) = in_force.weigh(equation)? else {
             return Ok(0);
         };

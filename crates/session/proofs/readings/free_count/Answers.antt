@@ -13,4 +13,4 @@ returns-clause-truly c m bits st =
     let t = c.args.table.now in
     let n = c.args.counter.now.count in
     let answer : Ok c.free.result ≡ freeing (session_of t c.args.counter.now) = search rules in
-    free_true m t.frame (session_of t c.args.counter.now) bits st (Ok c.free.result) answer (halved t n)
+    free_true m t.fit.frame (session_of t c.args.counter.now) bits st (Ok c.free.result) answer (halved t n)

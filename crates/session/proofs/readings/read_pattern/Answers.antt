@@ -16,4 +16,4 @@ returns-clause-truly c m bits st =
     let t = c.args.table.now in
     let n = c.args.counter.now.count in
     let s = session_of t c.args.counter.now in
-    pattern_true m t.frame s bits st c.args.digits.now (Ok tt) _ (search rules) (grind (arith, common_steps)) (halved t n)
+    pattern_true m t.fit.frame s bits st c.args.digits.now (Ok tt) _ (search rules) (grind (arith, common_steps)) (halved t n)

@@ -1,16 +1,12 @@
-use Rattle.std.proofs.Common.{◌≡◌, ℕ, ◌+◌, length, sym, refl, subst, arith}
+use Rattle.std.proofs.Common.{ℕ, ◌+◌, sym, refl, subst}
 use Rattle.equations.specs.Systems.{row_at}
 use Rattle.equations.proofs.Leads.{lead_top}
-use Rattle.session.specs.Leaders.{Leaders}
 use Rattle.session.proofs.Solving.{LeadersOf, leaders_none, leaders_more, leaders_skip}
 use Rattle.session.proofs.in_force.InForce.leaders.Goals.{in-Some, in_default}
 use Rattle.session.proofs.in_force.InForce.leaders.Goals as goal
 
 pub loop-row-init : goal.loop-row-init
 loop-row-init c = leaders_none c.args.self.now.rows.now
-
-pub bounds-leaders-lead : goal.bounds-leaders-lead
-bounds-leaders-lead c = (lead_top (row_at c.args.self.now.rows.now c.loop-row.row-index) c.in-Some.lead (sym c.in-Some.ensures)).below
 
 pub loop-row-preserved : goal.loop-row-preserved
 loop-row-preserved c =
@@ -21,8 +17,3 @@ loop-row-preserved c =
           (lead_top (row_at rows k) w.in-Some.lead (sym w.in-Some.ensures)).below c.loop-row.invariant)
       | in_default w ↦ subst (LeadersOf rows (k + 1)) (sym w.leaders-is) (leaders_skip rows k c.loop-row.leaders (sym w.in_default.ensures) c.loop-row.invariant)
     ]
-
-pub returns : goal.returns
-returns c =
-    let all : c.loop-row.row-index ≡ length c.args.self.now.rows.now = omega arith in
-    subst (λ (n : ℕ). Leaders c.args.self.now.rows.now n c.loop-row.leaders) all c.loop-row.invariant.each
