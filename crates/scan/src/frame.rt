@@ -24,7 +24,7 @@ impl Frame {
     pub fn check_cycles(self) -> Result<(), Refusal>
         ensures { result ≡ in_limits self (Ok tt) }
     {
-        if self.warmup > WARMUP_LIMIT || self.shifts < 1 || self.shifts > SHIFT_LIMIT {
+        if self.warmup > WARMUP_LIMIT || !(1..=SHIFT_LIMIT).contains(&self.shifts) {
             return Err(Refusal::OutOfRange);
         }
         Ok(())
