@@ -1,5 +1,6 @@
 -- Bits as digits: the characters 0 and 1, place 0 first.
-use Rattle.std.specs.Prelude.{ℕ, Bool, true, false, ◌&&◌, ◌||◌, List, [], ◌∷◌, map, ◌==◌, slice_index}
+use Rattle.std.specs.Prelude.{ℕ, Bool, true, false, ◌||◌, List, map, ◌==◌, slice_index}
+use Rattle.std.specs.List.{list_all}
 use Rattle.bits.specs.Rows.{Row}
 use Rattle.bits.specs.Lists.{list_of}
 
@@ -15,8 +16,7 @@ abbrev pub is_digit : ℕ → Bool
 is_digit d = d == 48 || d == 49
 
 abbrev pub all_digits : List ℕ → Bool
-all_digits [] = true
-all_digits (d ∷ ds) = is_digit d && all_digits ds
+all_digits = list_all is_digit
 
 -- the row that digits write
 abbrev pub digit_row : List ℕ → Row

@@ -3,7 +3,7 @@ use Rattle.std.proofs.Common.{◌≡◌, ℕ, zero, suc, ◌+◌, ◌<◌, ◌�
 use Rattle.std.proofs.lemmas.List.{append-nil, length-append}
 use Rattle.std.proofs.lemmas.Bool.Decides.{nat_tests}
 use Rattle.refusals.specs.declared.Refusal.{Refusal}
-use Rattle.refusals.proofs.Lines.{then_ok}
+use Rattle.refusals.proofs.Steps.{then_ok}
 use Rattle.refusals.specs.Chains.{and_then, reading}
 use Rattle.layers.specs.Shifter.{set_line, set_lines, some_outlet, outlets_from, ShifterExactly}
 

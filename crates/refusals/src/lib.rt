@@ -39,10 +39,12 @@ impl Refusal {
     {
         self as u8
     }
+}
 
-    // What the refusal says in words.
-    fn sentence(self) -> &'static str {
-        match self {
+// What the refusal says in words.
+impl fmt::Display for Refusal {
+    fn fmt<W: fmt::Write>(&self, f: &mut fmt::Formatter<W>) -> fmt::Result {
+        f.write_str(match self {
             Refusal::LineTooLong => "a line exceeds 320 bytes",
             Refusal::StrayByte => "a byte is neither a tab nor a printing character",
             Refusal::NoRecordWord => "the first field is no record word",
@@ -62,13 +64,7 @@ impl Refusal {
             Refusal::MemoryTooShort => "the memory handed over is too short",
             Refusal::NoCycleLeft => "no cycle is left",
             Refusal::CyclesLeft => "cycles are left",
-        }
-    }
-}
-
-impl fmt::Display for Refusal {
-    fn fmt<W: fmt::Write>(&self, f: &mut fmt::Formatter<W>) -> fmt::Result {
-        f.write_str(self.sentence())
+        })
     }
 }
 

@@ -7,7 +7,7 @@ use Rattle.bits.specs.Rows.{Row, zeros}
 use Rattle.bits.proofs.Sums.{ext}
 use Rattle.refusals.specs.declared.Refusal.{Refusal}
 use Rattle.refusals.specs.declared.Refusal.TheVariants.{OutOfRange, Repeated, TooMany}
-use Rattle.refusals.proofs.Lines.{then_ok}
+use Rattle.refusals.proofs.Steps.{then_ok}
 use Rattle.refusals.specs.Chains.{and_then, refused_if, reading}
 use Rattle.registers.specs.declared.Link.{Link}
 use Rattle.registers.specs.Rules.{sized, TapsRead, with_tap, tap_line, tap_lines, LinksRead, with_link, link_line, link_lines, InletsRead, with_inlet, inlet_line, inlet_lines, Lawful, no_link, next_cell, same_link, is_linked}
