@@ -7,7 +7,8 @@ pub(crate) fn number<T: Drop>(answer: Result<T, Refusal>) -> Option<u8> {
     answer.err().map(|refusal| refusal.number())
 }
 
-// A ring of four cells with a link from cell 0 to cell 3 and one inlet, channel 0 into cell 0.
+// A ring of four cells with a link from cell 0 to cell 3 and one inlet, channel 0 into cell 0. The tour makes the same one: it is a program, from
+// which no other crate can take it.
 pub(crate) fn ring_of_four() -> Result<RingGenerator, Refusal> {
     RingGenerator::new(4, &[Link { from: 0, to: 3 }], &[0])
 }

@@ -3,9 +3,11 @@ use crate::common::number;
 use layers::PhaseShifter;
 use machine::Machine;
 use registers::{GaloisRegister, Link, RingGenerator};
+use std::array;
 use std::process::Abort;
 use std::test::Fail;
 
+// The two registers are tried under their own names: one helper for both would take the maker as a closure.
 fn galois(size: usize, taps: &[usize], inlets: &[usize]) -> Option<u8> {
     number(GaloisRegister::new(size, taps, inlets))
 }
@@ -65,17 +67,10 @@ fn no_link_to_the_next_cell(rt: HostRuntime) {
     );
 }
 
-// Links from cell 0 to the cells from 2 on.
-fn fan_out(links: &mut [Link]) {
-    for (k, link) in links.iter_mut().enumerate() {
-        link.to = k.saturating_add(2);
-    }
-}
-
 #[test]
 fn at_most_16_links(rt: HostRuntime) {
-    let mut links = [link(0, 2); 17];
-    fan_out(&mut links);
+    // Links from cell 0 to the cells from 2 on.
+    let mut links: [Link; 17] = array::from_fn(|k| link(0, k.saturating_add(2)));
     assert_eq!(rt; ring(64, &links[0..16], &[0]), None);
     assert_eq!(rt; ring(64, &links[0..17], &[0]), Some(9));
     links[16].to = 2;

@@ -1,10 +1,12 @@
 // Test runs at the limits of their frames, and what refusals leave.
 use crate::common::{number, ring_of_four};
+use bits::digit;
 use machine::Machine;
 use patterns::replay;
 use refusals::Refusal;
 use registers::GaloisRegister;
-use scan::{CareBit, Frame, Loaded, Loading};
+use scan::{CareBit, Fit, Frame, Loaded, Loading};
+use std::array;
 use std::process::Abort;
 use std::test::Fail;
 
@@ -82,6 +84,30 @@ fn memory_for_each_position(rt: HostRuntime) -> Result<(), Fail> {
     Ok(())
 }
 
+#[test]
+fn a_checked_frame(rt: HostRuntime) -> Result<(), Fail> {
+    let ring = ring_of_four()?;
+    let frame = Frame {
+        warmup: 2,
+        shifts: 3,
+    };
+    let fit = Fit::of(&ring, frame)?;
+    assert_eq!(rt; fit.frame().warmup, 2);
+    assert_eq!(rt; fit.frame().shifts, 3);
+    assert_eq!(rt; (fit.channels(), fit.outlets()), (1, 4));
+    assert_eq!(rt; (fit.cycles(), fit.variables()), (5, 5));
+    assert!(rt; fit.suits(&ring));
+    assert!(rt; !fit.suits(&galois(&[0])?), "fewer outlets");
+    assert!(rt;
+        !fit.suits(&GaloisRegister::new(4, &[], &[0, 1])?),
+        "more channels"
+    );
+    let two = Fit::of(&galois(&[0, 1])?, frame)?;
+    assert_eq!(rt; (two.cycles(), two.variables()), (5, 10));
+    assert_eq!(rt; (Fit::none().cycles(), Fit::none().outlets()), (0, 0));
+    Ok(())
+}
+
 // The number with which a replay is refused, if it is; a refused one leaves cells and memory as they were.
 fn replayed(
     rt: &impl Abort,
@@ -149,10 +175,8 @@ fn by_hand<M: Machine>(
 }
 
 // Digits without a short period.
-fn mix(digits: &mut [u8]) {
-    for (t, digit) in digits.iter_mut().enumerate() {
-        *digit = if t % 3 == 1 || t % 7 == 2 { b'1' } else { b'0' };
-    }
+fn mixed() -> [u8; 256] {
+    array::from_fn(|t| digit(t % 3 == 1 || t % 7 == 2))
 }
 
 // Both ways of loading 256 digits, from other cells and other memory.
@@ -176,8 +200,7 @@ fn both_ways<M: Machine>(rt: &impl Abort, machine: &mut M, shifts: usize, digits
 
 #[test]
 fn by_hand_and_replayed(rt: HostRuntime) -> Result<(), Fail> {
-    let mut digits = [0; 256];
-    mix(&mut digits);
+    let digits = mixed();
     let mut ring = ring_of_four()?;
     both_ways(&rt, &mut ring, 256, &digits);
     Ok(())
@@ -185,8 +208,7 @@ fn by_hand_and_replayed(rt: HostRuntime) -> Result<(), Fail> {
 
 #[test]
 fn by_hand_and_replayed_on_two_channels(rt: HostRuntime) -> Result<(), Fail> {
-    let mut digits = [0; 256];
-    mix(&mut digits);
+    let digits = mixed();
     let mut register = galois(&[0, 1])?;
     both_ways(&rt, &mut register, 128, &digits);
     Ok(())

@@ -4,6 +4,7 @@ use layers::{Delay, PhaseShifter};
 use machine::{Machine, cycle};
 use refusals::Refusal;
 use registers::{GaloisRegister, Link, RingGenerator};
+use std::array;
 use std::process::Abort;
 use std::test::Fail;
 
@@ -53,17 +54,10 @@ fn bits_past_the_channels_are_ignored(rt: HostRuntime) -> Result<(), Fail> {
     Ok(())
 }
 
-// Channel k into cell k.
-fn straight(inlets: &mut [usize]) {
-    for (k, cell) in inlets.iter_mut().enumerate() {
-        *cell = k;
-    }
-}
-
 #[test]
 fn sixty_four_cells_and_channels(rt: HostRuntime) -> Result<(), Fail> {
-    let mut inlets = [0; 64];
-    straight(&mut inlets);
+    // Channel k into cell k.
+    let inlets: [usize; 64] = array::from_fn(|k| k);
     let mut ring = RingGenerator::new(64, &[Link { from: 63, to: 63 }], &inlets)?;
     ring.shift(1 << 63);
     assert_eq!(rt; ring.read(), 1 << 63);
