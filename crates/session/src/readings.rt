@@ -1,6 +1,6 @@
 // What can be read of a session between trials.
-ghost use Rattle.std.specs.Prelude.{◌≡◌, ◌≤◌, ◌++◌, length, drop};
-ghost use Rattle.bits.specs.Digits.{digit_of, digits_of};
+ghost use Rattle.std.specs.Prelude.{◌≡◌, length};
+ghost use Rattle.bits.specs.Digits.{digits_of};
 ghost use Rattle.equations.specs.Equations.{words_row};
 ghost use Rattle.refusals.specs.Chains.{answer_of, left_by};
 ghost use Rattle.session.specs.Dialogues.{FreeTruly, ReadTruly};

@@ -12,8 +12,8 @@ mod write;
 use equations::Equation;
 use scan::Fit;
 
-// Room for 256 equations, and the fit of the opening. Of the rows the first `written` hold equations: each has a lead,
-// its highest-numbered variable, no two share a lead, and none has the lead of one before it among its variables.
+// Room for 256 equations, and the fit of the opening. Of the rows the first `written` hold equations: each has a lead, its highest-numbered
+// variable, no two share a lead, and none has the lead of one before it among its variables.
 #[derive(Drop)]
 pub struct EquationTable {
     pub(crate) rows: [Equation; 256],
