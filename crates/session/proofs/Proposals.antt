@@ -5,7 +5,7 @@ use Rattle.bits.specs.Lists.{row_of}
 use Rattle.equations.specs.declared.Equation.{Equation}
 use Rattle.equations.specs.Counting.{both, number}
 use Rattle.equations.specs.Equations.{holds}
-use Rattle.equations.specs.Systems.{Within}
+use Rattle.equations.specs.Systems.{Within, ClearOf}
 use Rattle.equations.proofs.Counts.{number_same}
 use Rattle.machine.specs.Linear.{Linear}
 use Rattle.refusals.specs.declared.Refusal.{Refusal}
@@ -24,7 +24,7 @@ use Rattle.session.specs.Lent.{Lent}
 use Rattle.session.specs.Sessions.{Session, is_like, in_force, proposable, judging, After, Proposed}
 use Rattle.session.specs.Standing.{loading, weighed}
 use Rattle.session.specs.Views.{session_at}
-use Rattle.session.proofs.Entering.{of_lent, follows_answer, follows_after, conflict_answer, conflict_after, new_answer, new_after}
+use Rattle.session.proofs.Entering.{of_lent, reduced, follows_answer, follows_after, conflict_answer, conflict_after, new_answer, new_after}
 use Rattle.session.proofs.Truths.{propose_true}
 
 -- a proposal that does what it should answers truly
@@ -86,6 +86,9 @@ module _ (m : Linear) (t : EquationTable) (n : ℕ) (b : CareBit) (s : InForce) 
   module _ (o : Option Equation) (r : Equation) (some : o ≡ Some r) (judged : Judged s.variables s.rows.now e (Ok o)) where
     new : Judged (variables t.fit.channels t.fit.frame) (take n t.rows) e (Ok (Some r))
     new = of_lent t n e lent.0 s (Ok (Some r)) lent (subst (λ (p : Option Equation). Judged s.variables s.rows.now e (Ok p)) some judged)
+
+    pub clear_of_them : ClearOf t.rows n r
+    clear_of_them = (reduced t n e lent.0 r within new).clear
 
     pub enters : (u : EquationTable) → u.rows ≡ set t.rows n r → u.written ≡ n + 1 → u.fit ≡ t.fit
         → Proposed m (session_at t n) b (Ok 1) (session_at u (n + 1))

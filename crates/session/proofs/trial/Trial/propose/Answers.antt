@@ -3,7 +3,7 @@ use Rattle.std.proofs.lemmas.Result.{err_from_is_err_and}
 use Rattle.refusals.specs.declared.Refusal.{Refusal}
 use Rattle.session.specs.Sessions.{is_like, Proposed}
 use Rattle.session.specs.Views.{session_at}
-use Rattle.session.proofs.Proposals.{truly, follows, conflicts, enters}
+use Rattle.session.proofs.Proposals.{truly, follows, conflicts, clear_of_them, enters}
 use Rattle.session.proofs.trial.Trial.propose.Goals as goal
 
 pub returns-in_err-row-clause-proposed : goal.returns-in_err-row-clause-proposed
@@ -31,6 +31,15 @@ returns-in_default-clause-proposed g c =
 
 pub returns-in_default-clause-truly : goal.returns-in_default-clause-truly
 returns-in_default-clause-truly g c = truly _ _ _ _ _ (returns-in_default-clause-proposed g c)
+
+pub write-requires-clause-clear : goal.write-requires-clause-clear
+write-requires-clause-clear g c =
+    let m = g.M.Machine.meaning c.args.machine.now in
+    let t = c.args.table.now in
+    let n : ℕ = c.args.self.now.counter.now.count in
+    let like : is_like m (session_at t n) ≡ true = search rules in
+    clear_of_them m t n c.args.bit c.in_ok-in_force.in_force c.in_ok-in_force.ensures like c.frame.result c.frame.ensures c.in_ok-equation.ensures.answer c.in_ok-equation.equation
+    (c.in_ok-equation.ensures.equation _ refl) c.in_ok-row.field-0 c.in-Some.row c.in-Some.is c.in_ok-row.ensures
 
 pub returns-clause-proposed : goal.returns-clause-proposed
 returns-clause-proposed g c =
