@@ -17,7 +17,7 @@ use Rattle.bits.proofs.Sums.{ext, xor_false, xor_assoc, sum_plus, sum_none, sum_
 use Rattle.equations.specs.Equations.{words_row, dot, highest, last_bit}
 
 -- a word that is 0 has no bit
-word_none : (words : List ℕ) (i : ℕ) → get_or words (i / 64) 0 ≡ 0 → words_row words i ≡ false
+pub word_none : (words : List ℕ) (i : ℕ) → get_or words (i / 64) 0 ≡ 0 → words_row words i ≡ false
 word_none words i none = ap (λ (w : ℕ). bit_of w (i % 64)) none ∙ ap (λ (s : Row). s (i % 64)) bit_zero
 
 -- past the words there is no bit

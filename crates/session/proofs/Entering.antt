@@ -9,10 +9,10 @@ use Rattle.bits.specs.Lists.{row_of}
 use Rattle.equations.specs.declared.Equation.{Equation}
 use Rattle.equations.specs.Counting.{Test, both, number}
 use Rattle.equations.specs.Equations.{holds, solves, solutions, lead_of}
-use Rattle.equations.specs.Systems.{is_below, Led, Apart, Clear, Within, Reduced}
+use Rattle.equations.specs.Systems.{is_below, ClearOf, Led, Apart, Clear, Within, Reduced}
 use Rattle.equations.proofs.Counts.{number_same, number_none}
 use Rattle.equations.proofs.Leads.{below_is, holds_none}
-use Rattle.equations.proofs.Reductions.{lead_low, number_more, room_more, solutions_more}
+use Rattle.equations.proofs.Reductions.{Keeps, keeps, lead_low, number_more, room_more, solutions_more}
 use Rattle.equations.proofs.Solved.{system_number}
 use Rattle.refusals.specs.declared.Refusal.{Refusal}
 use Rattle.refusals.specs.declared.Refusal.TheVariants.{Conflict}
@@ -35,6 +35,15 @@ left_says v rows e r reduced none x h =
 pub left_leads : (v : ℕ) (rows : List Equation) (e r : Equation) (w : ℕ) → Within v e → Reduced v rows (length rows) e r → lead_of r ≡ Some w → is_below v (lead_of r) ≡ true
 left_leads v rows e r w within reduced lead =
     ap (is_below v) lead ∙ lt-ltb w v (lead_low v rows (length rows) e r reduced (λ x. holds e (row_of x)) (λ x _. refl) w lead within)
+
+-- what a table keeps when such an equation is written into the row after the first n
+pub kept : (t : EquationTable) (n : ℕ) (r : Equation) → n ≤ t.written → is_below (variables t.fit.channels t.fit.frame) (lead_of r) ≡ true → ClearOf t.rows n r
+    → Keeps (variables t.fit.channels t.fit.frame) t.rows n r
+kept t n r up lead clear =
+    let few = t.fit.few in
+    let long = t.long in
+    let room = t.room in
+    keeps (variables t.fit.channels t.fit.frame) t.rows t.written n r up (omega arith) (omega arith) t.led t.apart t.clear lead clear
 
 -- numbers weighed: none is left, as many, or fewer
 weighed_none : (a b : ℕ) → b ≡ 0 → weighed a b ≡ Err Conflict

@@ -1,5 +1,5 @@
 -- The first solution: who leads, and the variables one by one.
-use Rattle.std.proofs.Common.{◌≡◌, ℕ, suc, Bor, ◌+◌, ◌/◌, ◌%◌, ◌<◌, ◌≤◌, Bool, true, false, not, ◌&&◌, ◌||◌, eqb, List, [], ◌∷◌, ◌++◌, map, length, get_or, drop, set, replicate, Some, None, Option, sym, refl, ap, ◌∙◌, subst, ap₂, inl, inr, add-zero, arith, MatchOption}
+use Rattle.std.proofs.Common.{◌≡◌, ℕ, suc, Bor, ◌+◌, ◌/◌, ◌<◌, ◌≤◌, Bool, true, false, not, ◌&&◌, ◌||◌, eqb, List, [], ◌∷◌, ◌++◌, map, length, get_or, drop, set, replicate, Some, None, Option, sym, refl, ap, ◌∙◌, subst, ap₂, inl, inr, add-zero, arith, MatchOption}
 use mathlib.Core.Bool.{beq, and-false}
 use Rattle.std.proofs.lemmas.List.{append_assoc, length-map, length-set, map_push, drop_more, set_at, get_or-replicate, get_or_past, get_or-set_same, get_or-set_other}
 use Rattle.std.proofs.lemmas.Bool.{ltb-true, cases_eq, cases_lt, cases_order, eq-eqb, ne_eqb}
@@ -10,14 +10,13 @@ use Rattle.std.specs.List.{enumerate_from, FoldsTo}
 use Rattle.bits.specs.Digits.{digit_of, digits_of}
 use Rattle.bits.specs.Lists.{list_of}
 use Rattle.bits.specs.Rows.{Row, xor, upto, sum_of}
-use Rattle.bits.specs.Words.{bit_of}
-use Rattle.bits.proofs.Bitwise.{bit_zero}
 use Rattle.bits.proofs.Lists.{length_list_of, list_of_more}
 use Rattle.bits.proofs.Sums.{sum_same, sum_cut, upto_at, upto_past}
 use Rattle.equations.specs.declared.Equation.{Equation}
 use Rattle.equations.specs.Equations.{coefficients_of, dot, lead_of, solutions, words_row}
 use Rattle.equations.specs.Counting.{first}
 use Rattle.equations.specs.Systems.{row_at, is_below, Apart}
+use Rattle.equations.proofs.FourWords.{word_none}
 use Rattle.equations.proofs.Leads.{said_of}
 use Rattle.equations.proofs.Solved.{system_first}
 use Rattle.session.specs.declared.in_force.InForce.{InForce}
@@ -77,9 +76,7 @@ pub record Solving (rows : List Equation) (n v : ℕ) (y : Row) : Type 0 where
   pub past : (i : ℕ) → v ≤ i → y i ≡ false
 
 no_bits : (i : ℕ) → words_row (replicate 4 0) i ≡ false
-no_bits i =
-    ap (λ (w : ℕ). bit_of w (i % 64)) (elim (cases_lt (i / 64) 4) [ inl l ↦ get_or-replicate 4 (i / 64) 0 0 l | inr l ↦ get_or_past (replicate 4 0) (i / 64) 0 l ])
-    ∙ ap (λ (s : Row). s (i % 64)) bit_zero
+no_bits i = word_none (replicate 4 0) i (elim (cases_lt (i / 64) 4) [ inl l ↦ get_or-replicate 4 (i / 64) 0 0 l | inr l ↦ get_or_past (replicate 4 0) (i / 64) 0 l ])
 
 pub solving_none : (rows : List Equation) (n : ℕ) → Solving rows n 0 (words_row (replicate 4 0))
 solving_none rows n = record { led = λ k w h z l. absurd (omega arith); free = λ w l. absurd (omega arith); past = λ i _. no_bits i }

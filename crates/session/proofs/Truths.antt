@@ -1,6 +1,7 @@
 -- What the single calls answer is true of the bits for which table and counter stand.
 use Rattle.std.proofs.Common.{◌≡◌, ℕ, ◌-◌, ◌<◌, ◌≤◌, Bool, true, false, cond, not, ◌&&◌, eqb, ltb, ◌⊎◌, List, [], ◌∷◌, ◌++◌, map, length, drop, is_ok, Some, Ok, Err, Option, Result, sym, refl, ap, ◌∙◌, subst, ap₂, inl, inr, arith, pow_pos}
 use mathlib.Core.Bool.{and-true}
+use Rattle.std.proofs.Math.Bool.{and_assoc}
 use Rattle.std.proofs.lemmas.Bool.{and_from, and_parts, ltb-true, eq-eqb, lt-ltb, le-ltb, cond-true, cond-false}
 use Rattle.bits.specs.Digits.{digit_of}
 use Rattle.equations.specs.Counting.{both, number, first}
@@ -22,11 +23,7 @@ use Rattle.session.proofs.Patterns.{replays_all}
 -- one bit more
 pub loads_push : (m : Linear) (f : Frame) (bits : List CareBit) (b : CareBit) (x : List Bool) → loads_all m f (bits ++ (b ∷ [])) x ≡ (loads_all m f bits x && loading m f b x)
 loads_push m f [] b x = and-true (loading m f b x)
-loads_push m f (a ∷ bits) b x = ap (λ (t : Bool). loading m f a x && t) (loads_push m f bits b x) ∙ regroup (loading m f a x) (loads_all m f bits x) (loading m f b x)
-  where
-    regroup : (a b c : Bool) → (a && (b && c)) ≡ ((a && b) && c)
-    regroup true b c = refl
-    regroup false b c = refl
+loads_push m f (a ∷ bits) b x = ap (λ (t : Bool). loading m f a x && t) (loads_push m f bits b x) ∙ sym (and_assoc (loading m f a x) (loads_all m f bits x) (loading m f b x))
 
 ranged_push : (m : Linear) (f : Frame) (bits : List CareBit) (b : CareBit) → AllInRange m f bits → InRange m f b → AllInRange m f (bits ++ (b ∷ []))
 ranged_push m f [] b all one = (one, tt)

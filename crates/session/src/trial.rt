@@ -33,6 +33,7 @@ impl<'a> Trial<'a> {
     pub fn keep(self)
         ensures { self.exit.0.now ≡ self.entry.counter.now }
     {
+        // Each part by name: with `..` the rest would be dropped, and the drop lets go.
         let Trial {
             counter: _,
             found: _,
