@@ -1,5 +1,5 @@
 -- A test run while it loads: start, shift, close.
-use Rattle.std.specs.Prelude.{ℕ, ◌+◌, Bool, cond, not, ◌&&◌, List, length, Ok, Result, ◌==◌, nat_le, nat_lt}
+use Rattle.std.specs.Prelude.{ℕ, ◌+◌, cond, not, List, length, Ok, Result, nat_le, nat_lt}
 use Rattle.bits.specs.Rows.{Row, zeros}
 use Rattle.machine.specs.Linear.{Linear, shifted}
 use Rattle.refusals.specs.declared.Refusal.{Refusal}
@@ -8,7 +8,8 @@ use Rattle.refusals.specs.declared.handed_back.HandedBack.{HandedBack}
 use Rattle.refusals.specs.Chains.{refused_if, ok_map, left_by}
 use Rattle.scan.specs.declared.frame.Frame.{Frame}
 use Rattle.scan.specs.declared.response.Loaded.{Loaded}
-use Rattle.scan.specs.Frames.{in_limits, in_span}
+use Rattle.scan.specs.Fits.{Fitting, fitting, suited}
+use Rattle.scan.specs.Frames.{cycles, in_limits, in_span}
 use Rattle.scan.specs.Loads.{empty, moved_up}
 use Rattle.scan.specs.Memory.{chains_in, holding, in_memory}
 
@@ -28,17 +29,14 @@ bench_after found outcome = left_by found (ok_map (λ o. o.1) outcome)
 abbrev pub answered : {X : Type 0} → Result (X × Bench) Refusal → Result X Refusal
 answered outcome = ok_map (λ o. o.0) outcome
 
--- a run that loads, in numbers: its frame, the channels and outlets of the machine that it was started with, and the cycles done
+-- a run that loads: its frame with the channels and outlets of the machine that it was started with, and the cycles done
 pub record Run : Type 0 where
-  pub warmup : ℕ
-  pub shifts : ℕ
-  pub channels : ℕ
-  pub outlets : ℕ
+  pub fitting : Fitting
   pub done : ℕ
 
 -- the run of a frame on a machine after t cycles
 abbrev pub run_at : Linear → Frame → ℕ → Run
-run_at m f t = record { warmup = f.warmup; shifts = f.shifts; channels = m.channels; outlets = m.outlets; done = t }
+run_at m f t = record { fitting = fitting m f; done = t }
 
 -- a run beside the bench that it is run on
 abbrev pub underway : Run → Row → List ℕ → Run × Bench
@@ -50,17 +48,15 @@ starting m f b =
     in_limits f (in_span m.channels f (in_memory f.shifts (length b.memory)
     (Ok (run_at m f 0, bench zeros (holding f.shifts m.outlets empty b.memory)))))
 
--- the machine has the channels and outlets of the one at the start
-abbrev pub fits : Linear → Run → Bool
-fits m r = m.channels == r.channels && m.outlets == r.outlets
-
+-- the run with one cycle more done
 abbrev pub one_more : Run → Run
-one_more r = record { warmup = r.warmup; shifts = r.shifts; channels = r.channels; outlets = r.outlets; done = r.done + 1 }
+one_more r = record { fitting = r.fitting; done = r.done + 1 }
 
 -- the memory after the shift of a cycle that made the cells s: in a cycle above the warm-up the chains move up and take the outlets
 abbrev pub memory_after : Linear → Run → Row → List ℕ → List ℕ
 memory_after m r s memory =
-    cond (nat_lt r.warmup (r.done + 1)) (holding r.shifts r.outlets (moved_up (m.out s) (chains_in memory)) memory) memory
+    let f = r.fitting.frame in
+    cond (nat_lt f.warmup (r.done + 1)) (holding f.shifts r.fitting.outlets (moved_up (m.out s) (chains_in memory)) memory) memory
 
 -- one cycle, in which the channels take the bits of a word
 abbrev pub cycled : Linear → ℕ → Run → Bench → Bench
@@ -71,10 +67,11 @@ abbrev pub shifting : Linear → Run × Bench → ℕ → Result (Run × Bench) 
 shifting m o word =
     let r = o.0 in
     let b = o.1 in
-    refused_if (not (fits m r)) OutOfRange (in_memory r.shifts (length b.memory)
-    (refused_if (nat_le (r.warmup + r.shifts) r.done) NoCycleLeft (Ok (one_more r, cycled m word r b))))
+    refused_if (not (suited m r.fitting)) OutOfRange (in_memory r.fitting.frame.shifts (length b.memory)
+    (refused_if (nat_le (cycles r.fitting.frame) r.done) NoCycleLeft (Ok (one_more r, cycled m word r b))))
 
 -- closing, once all cycles are done; a refusal hands the run back
 abbrev pub closing : Run → Result Loaded (HandedBack Run)
 closing r =
-    refused_if (nat_lt r.done (r.warmup + r.shifts)) (record { value = r; refusal = CyclesLeft }) (Ok (record { positions = r.shifts; chains = r.outlets }))
+    refused_if (nat_lt r.done (cycles r.fitting.frame)) (record { value = r; refusal = CyclesLeft })
+    (Ok (record { positions = r.fitting.frame.shifts; chains = r.fitting.outlets }))

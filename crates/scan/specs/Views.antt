@@ -4,8 +4,10 @@ use Rattle.scan.specs.declared.loading.Loading.{Loading}
 use Rattle.scan.specs.Fits.{Fitting}
 use Rattle.scan.specs.Runs.{Run}
 
+-- a frame that was checked, beside the channels and outlets
 abbrev pub fitting_of : Fit → Fitting
 fitting_of f = record { frame = f.frame; channels = f.channels; outlets = f.outlets }
 
+-- a run that loads: what it was started with, and the cycles done
 abbrev pub run_of : Loading → Run
-run_of l = record { warmup = l.fit.frame.warmup; shifts = l.fit.frame.shifts; channels = l.fit.channels; outlets = l.fit.outlets; done = l.done }
+run_of l = record { fitting = fitting_of l.fit; done = l.done }
