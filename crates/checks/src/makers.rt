@@ -7,39 +7,33 @@ use std::array;
 use std::process::Abort;
 use std::test::Fail;
 
-// The two registers are tried under their own names: one helper for both would take the maker as a closure.
-fn galois(size: usize, taps: &[usize], inlets: &[usize]) -> Option<u8> {
-    number(GaloisRegister::new(size, taps, inlets))
-}
-
-fn ring(size: usize, links: &[Link], inlets: &[usize]) -> Option<u8> {
-    number(RingGenerator::new(size, links, inlets))
-}
-
 fn link(from: usize, to: usize) -> Link {
     Link { from, to }
 }
 
 #[test]
 fn sizes_from_2_to_64(rt: HostRuntime) {
-    assert_eq!(rt; galois(1, &[], &[0]), Some(7));
-    assert_eq!(rt; galois(2, &[1], &[1]), None);
-    assert_eq!(rt; galois(64, &[63], &[63]), None);
-    assert_eq!(rt; galois(65, &[], &[0]), Some(7));
-    assert_eq!(rt; ring(1, &[], &[0]), Some(7));
-    assert_eq!(rt; ring(2, &[link(0, 0)], &[1]), None);
-    assert_eq!(rt; ring(64, &[link(63, 63)], &[63]), None);
-    assert_eq!(rt; ring(65, &[], &[0]), Some(7));
+    assert_eq!(rt; number(GaloisRegister::new(1, &[], &[0])), Some(7));
+    assert_eq!(rt; number(GaloisRegister::new(2, &[1], &[1])), None);
+    assert_eq!(rt; number(GaloisRegister::new(64, &[63], &[63])), None);
+    assert_eq!(rt; number(GaloisRegister::new(65, &[], &[0])), Some(7));
+    assert_eq!(rt; number(RingGenerator::new(1, &[], &[0])), Some(7));
+    assert_eq!(rt; number(RingGenerator::new(2, &[link(0, 0)], &[1])), None);
+    assert_eq!(rt;
+        number(RingGenerator::new(64, &[link(63, 63)], &[63])),
+        None
+    );
+    assert_eq!(rt; number(RingGenerator::new(65, &[], &[0])), Some(7));
 }
 
 #[test]
 fn taps_from_1_to_the_last_cell(rt: HostRuntime) {
-    assert_eq!(rt; galois(4, &[0], &[0]), Some(7));
-    assert_eq!(rt; galois(4, &[1, 2, 3], &[0]), None);
-    assert_eq!(rt; galois(4, &[4], &[0]), Some(7));
-    assert_eq!(rt; galois(4, &[2, 2], &[0]), Some(8));
+    assert_eq!(rt; number(GaloisRegister::new(4, &[0], &[0])), Some(7));
+    assert_eq!(rt; number(GaloisRegister::new(4, &[1, 2, 3], &[0])), None);
+    assert_eq!(rt; number(GaloisRegister::new(4, &[4], &[0])), Some(7));
+    assert_eq!(rt; number(GaloisRegister::new(4, &[2, 2], &[0])), Some(8));
     assert_eq!(rt;
-        galois(4, &[2, 2, 4], &[0]),
+        number(GaloisRegister::new(4, &[2, 2, 4], &[0])),
         Some(8),
         "the first fault counts"
     );
@@ -47,21 +41,25 @@ fn taps_from_1_to_the_last_cell(rt: HostRuntime) {
 
 #[test]
 fn no_link_to_the_next_cell(rt: HostRuntime) {
-    assert_eq!(rt; ring(4, &[link(1, 2)], &[0]), Some(7));
+    assert_eq!(rt; number(RingGenerator::new(4, &[link(1, 2)], &[0])), Some(7));
     assert_eq!(rt;
-        ring(4, &[link(3, 0)], &[0]),
+        number(RingGenerator::new(4, &[link(3, 0)], &[0])),
         Some(7),
         "the next cell of the last is cell 0"
     );
-    assert_eq!(rt; ring(4, &[link(2, 2)], &[0]), None, "from a cell to itself");
-    assert_eq!(rt; ring(4, &[link(4, 0)], &[0]), Some(7));
-    assert_eq!(rt; ring(4, &[link(0, 4)], &[0]), Some(7));
     assert_eq!(rt;
-        ring(4, &[link(0, 3), link(3, 1), link(0, 3)], &[0]),
+        number(RingGenerator::new(4, &[link(2, 2)], &[0])),
+        None,
+        "from a cell to itself"
+    );
+    assert_eq!(rt; number(RingGenerator::new(4, &[link(4, 0)], &[0])), Some(7));
+    assert_eq!(rt; number(RingGenerator::new(4, &[link(0, 4)], &[0])), Some(7));
+    assert_eq!(rt;
+        number(RingGenerator::new(4, &[link(0, 3), link(3, 1), link(0, 3)], &[0])),
         Some(8)
     );
     assert_eq!(rt;
-        ring(4, &[link(0, 3), link(0, 3), link(0, 1)], &[]),
+        number(RingGenerator::new(4, &[link(0, 3), link(0, 3), link(0, 1)], &[])),
         Some(8),
         "the first fault counts"
     );
@@ -71,17 +69,20 @@ fn no_link_to_the_next_cell(rt: HostRuntime) {
 fn at_most_16_links(rt: HostRuntime) {
     // Links from cell 0 to the cells from 2 on.
     let mut links: [Link; 17] = array::from_fn(|k| link(0, k.saturating_add(2)));
-    assert_eq!(rt; ring(64, &links[0..16], &[0]), None);
-    assert_eq!(rt; ring(64, &links[0..17], &[0]), Some(9));
+    assert_eq!(rt; number(RingGenerator::new(64, &links[0..16], &[0])), None);
+    assert_eq!(rt;
+        number(RingGenerator::new(64, &links[0..17], &[0])),
+        Some(9)
+    );
     links[16].to = 2;
     assert_eq!(rt;
-        ring(64, &links[0..17], &[0]),
+        number(RingGenerator::new(64, &links[0..17], &[0])),
         Some(8),
         "a 17th link that is given again"
     );
     links[16].to = 1;
     assert_eq!(rt;
-        ring(64, &links[0..17], &[0]),
+        number(RingGenerator::new(64, &links[0..17], &[0])),
         Some(7),
         "a 17th link to the next cell"
     );
@@ -90,14 +91,14 @@ fn at_most_16_links(rt: HostRuntime) {
 #[test]
 fn from_1_to_64_channels(rt: HostRuntime) {
     let cells = [1; 65];
-    assert_eq!(rt; galois(2, &[], &[]), Some(7));
-    assert_eq!(rt; galois(2, &[], &cells[0..1]), None);
-    assert_eq!(rt; galois(2, &[], &cells[0..64]), None);
-    assert_eq!(rt; galois(2, &[], &cells[0..65]), Some(7));
-    assert_eq!(rt; ring(2, &[], &[]), Some(7));
-    assert_eq!(rt; ring(2, &[], &cells[0..64]), None);
-    assert_eq!(rt; ring(2, &[], &cells[0..65]), Some(7));
-    assert_eq!(rt; ring(2, &[], &[2]), Some(7));
+    assert_eq!(rt; number(GaloisRegister::new(2, &[], &[])), Some(7));
+    assert_eq!(rt; number(GaloisRegister::new(2, &[], &cells[0..1])), None);
+    assert_eq!(rt; number(GaloisRegister::new(2, &[], &cells[0..64])), None);
+    assert_eq!(rt; number(GaloisRegister::new(2, &[], &cells[0..65])), Some(7));
+    assert_eq!(rt; number(RingGenerator::new(2, &[], &[])), Some(7));
+    assert_eq!(rt; number(RingGenerator::new(2, &[], &cells[0..64])), None);
+    assert_eq!(rt; number(RingGenerator::new(2, &[], &cells[0..65])), Some(7));
+    assert_eq!(rt; number(RingGenerator::new(2, &[], &[2])), Some(7));
 }
 
 // The number of a shifter's refusal, if it is refused, after a look at the machine that is handed back: its cells are as they were.

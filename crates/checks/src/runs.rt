@@ -1,6 +1,7 @@
 // Test runs at the limits of their frames, and what refusals leave.
-use crate::common::{number, ring_of_four};
+use crate::common::number;
 use bits::digit;
+use examples::ring_of_four;
 use machine::Machine;
 use patterns::replay;
 use refusals::Refusal;

@@ -1,5 +1,5 @@
 // Registers and piles of layers as they shift.
-use crate::common::ring_of_four;
+use examples::ring_of_four;
 use layers::{Delay, PhaseShifter};
 use machine::{Machine, cycle};
 use refusals::Refusal;

@@ -5,6 +5,7 @@ use Rattle.bits.specs.Rows.{Row, sum_of}
 use Rattle.bits.specs.Words.{bit_of}
 use Rattle.machine.specs.Linear.{Linear}
 use Rattle.refusals.specs.declared.Refusal.{Refusal}
+use Rattle.refusals.specs.declared.handed_back.HandedBack.{HandedBack}
 use Rattle.refusals.specs.declared.Refusal.TheVariants.{OutOfRange}
 use Rattle.refusals.specs.Chains.{and_then, refused_if, reading}
 
@@ -49,5 +50,5 @@ pub record ShifterExactly (sets : List ℕ) : Type 0 where
   pub only : is_ok (outlets_from sets) ≡ true → OutletsAllowed sets
 
 -- a shifter by its machine below and its sets, or the machine handed back with the refusal
-abbrev pub shifter_over : {M : Type 0} → M → Result (List ℕ) Refusal → Result (M × List ℕ) (M × Refusal)
-shifter_over m sets = result_map_both (λ accepted. (m, accepted)) (λ refusal. (m, refusal)) sets
+abbrev pub shifter_over : {M : Type 0} → M → Result (List ℕ) Refusal → Result (M × List ℕ) (HandedBack M)
+shifter_over m sets = result_map_both (λ accepted. (m, accepted)) (λ refusal. record { value = m; refusal = refusal }) sets

@@ -3,8 +3,6 @@ use Rattle.std.specs.Prelude.{ℕ, List}
 use Rattle.bits.specs.Rows.{Row}
 use Rattle.bits.specs.Words.{bit_of}
 use Rattle.lists.specs.Listed.{listed}
-use Rattle.refusals.specs.declared.Refusal.{Refusal}
-use Rattle.refusals.specs.declared.handed_back.HandedBack.{HandedBack}
 use Rattle.layers.specs.declared.delay.Delay.{Delay}
 use Rattle.layers.specs.declared.sets.OutletSets.{OutletSets}
 use Rattle.layers.specs.declared.shifter.PhaseShifter.{PhaseShifter}
@@ -16,10 +14,6 @@ sets_read t = listed t.words
 -- the machine below, and the sets
 abbrev pub shifter_parts : {M : Type 0} → PhaseShifter M → M × List ℕ
 shifter_parts p = (p.below, sets_read p.sets)
-
--- what a refusal hands back, and the refusal
-abbrev pub handed_parts : {M : Type 0} → HandedBack M → M × Refusal
-handed_parts h = (h.value, h.refusal)
 
 -- the machine below, and the cells of the delay itself
 abbrev pub delay_parts : {M : Type 0} → Delay M → M × Row

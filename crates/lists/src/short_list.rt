@@ -12,6 +12,7 @@ pub struct ShortList<T, const N: usize> {
     ghost room: { count ≤ N },
 }
 
+// By hand, since `Clone` is derived for no generic struct with a ghost field.
 impl<T: Copy, const N: usize> Clone for ShortList<T, N> {
     ghost is_clone = { λ list copy. copy ≡ list };
 

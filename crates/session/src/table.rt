@@ -13,7 +13,8 @@ use equations::Equation;
 use scan::Fit;
 
 // Room for 256 equations, and the fit of the opening. Of the rows the first `written` hold equations: each has a lead, its highest-numbered
-// variable, no two share a lead, and none has the lead of one before it among its variables.
+// variable, no two share a lead, and none has the lead of one before it among its variables. An array with a number beside it, and no list that grows: rows
+// that a trial let go of stay, and the row after those in force is lent to be written in place.
 #[derive(Drop)]
 pub struct EquationTable {
     pub(crate) rows: [Equation; 256],

@@ -1,6 +1,7 @@
 // Machines, cycle by cycle.
 use crate::digits::digits;
 use anyhow::anyhow;
+use examples::ring_of_four;
 use layers::{Delay, PhaseShifter};
 use machine::{Machine, cycle};
 use refusals::Refusal;
@@ -25,11 +26,6 @@ fn show_cycles<M: Machine + Drop, F: Fn(&M, String) -> Result<String, AllocError
         println!(rt; "  cycle {}: injected {word}, {state}", t + 1)?;
     }
     Ok(())
-}
-
-// The ring of four cells with a link from cell 0 to cell 3 and one inlet, channel 0 into cell 0.
-pub(crate) fn ring_of_four() -> Result<RingGenerator, Refusal> {
-    RingGenerator::new(4, &[Link { from: 0, to: 3 }], &[0])
 }
 
 // A ring alone: its outlets are its cells.

@@ -1,7 +1,7 @@
 // A test run: a pattern is loaded, a response captured and unloaded.
 use crate::digits::{chain_digits, pair_digits};
-use crate::machines::ring_of_four;
 use anyhow::anyhow;
+use examples::ring_of_four;
 use patterns::replay;
 use refusals::Refusal;
 use scan::{CareBit, Frame, Loaded};

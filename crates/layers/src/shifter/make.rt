@@ -1,7 +1,7 @@
 ghost use Rattle.std.specs.Prelude.{◌≡◌};
-ghost use Rattle.std.specs.Result.{result_map_both};
+ghost use Rattle.refusals.specs.Chains.{ok_map};
 ghost use Rattle.layers.specs.Shifter.{some_outlet, outlets_from, ShifterExactly, shifter_over};
-ghost use Rattle.layers.specs.Views.{sets_read, shifter_parts, handed_parts};
+ghost use Rattle.layers.specs.Views.{sets_read, shifter_parts};
 
 use crate::sets::OutletSets;
 use crate::shifter::PhaseShifter;
@@ -10,7 +10,7 @@ use refusals::{HandedBack, Refusal, gathered};
 impl<M> PhaseShifter<M> {
     // A shifter over a machine; a refusal hands the machine back.
     pub fn over(below: M, sets: OutletSets) -> Result<PhaseShifter<M>, HandedBack<M>>
-        ensures { result_map_both shifter_parts handed_parts result ≡ shifter_over below (some_outlet (sets_read sets)) }
+        ensures { ok_map shifter_parts result ≡ shifter_over below (some_outlet (sets_read sets)) }
     {
         if sets.words.len() < 1 {
             return Err(HandedBack {
@@ -25,7 +25,7 @@ impl<M> PhaseShifter<M> {
     // not allowed.
     #[tactic(auto, using(crate::proofs::Exactly::shifter_exactly))]
     pub fn new(below: M, sets: &[u64]) -> Result<PhaseShifter<M>, HandedBack<M>>
-        ensures made { result_map_both shifter_parts handed_parts result ≡ shifter_over below (outlets_from sets.now) }
+        ensures made { ok_map shifter_parts result ≡ shifter_over below (outlets_from sets.now) }
         ensures exactly { ShifterExactly sets.now }
     {
         // Both ways out move the machine, so `map_err` with a `?` cannot take it.

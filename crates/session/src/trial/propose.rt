@@ -12,7 +12,8 @@ use scan::CareBit;
 
 impl Trial<'_> {
     // Proposes a bit, and answers by how much the free count fell: 1, or 0 if the bits that stand imply it. The machine is driven from reset and
-    // left at reset, also where the bit conflicts; a refusal for another reason leaves it as it was. After a refusal the trial goes on.
+    // left at reset, also where the bit conflicts; a refusal for another reason leaves it as it was. After a refusal the trial goes on. The answer
+    // is a number and no enum, as it is a difference of free counts.
     pub fn propose<M: Machine>(
         &mut self,
         table: &mut EquationTable,
