@@ -21,7 +21,7 @@ def functions(path):
     for found in FUNCTION.finditer(text):
         end = re.compile(r'^%s\}' % found.group(1), re.M).search(text, found.end())
         body = CLAUSE.sub('', text[found.start():end.end() if end else len(text)])
-        if ';' in body.split('{')[0]:
+        if ';' in re.sub(r'\[[^\]]*\]', '', body.split('{')[0]):
             continue
         shape = []
         for word in WORD.findall(body):

@@ -11,6 +11,10 @@ use std::array;
 use std::process::Abort;
 use std::test::Fail;
 
+fn frame(warmup: usize, shifts: usize) -> Frame {
+    Frame { warmup, shifts }
+}
+
 // A register of two cells with as many channels as there are cells in the list.
 fn galois(inlets: &[usize]) -> Result<GaloisRegister, Refusal> {
     GaloisRegister::new(2, &[1], inlets)
@@ -21,19 +25,18 @@ fn galois(inlets: &[usize]) -> Result<GaloisRegister, Refusal> {
 fn start<M: Machine>(
     rt: &impl Abort,
     machine: &mut M,
-    warmup: usize,
-    shifts: usize,
+    frame: Frame,
     words: &mut [u64],
 ) -> Option<u8> {
     machine.reset();
     machine.shift(1);
     let cells = machine.read();
     words.fill(7);
-    let refused = number(Loading::start(machine, Frame { warmup, shifts }, words));
+    let refused = number(Loading::start(machine, frame, words));
     let started = refused.is_none();
     assert_eq!(rt; machine.read(), if started { 0 } else { cells });
     for (p, word) in words.iter().enumerate() {
-        assert_eq!(rt; *word, if started && p < shifts { 0 } else { 7 });
+        assert_eq!(rt; *word, if started && p < frame.shifts { 0 } else { 7 });
     }
     refused
 }
@@ -42,12 +45,12 @@ fn start<M: Machine>(
 fn limits_of_a_frame(rt: HostRuntime) -> Result<(), Fail> {
     let mut ring = ring_of_four()?;
     let mut words = [0; 258];
-    assert_eq!(rt; start(&rt, &mut ring, 0, 1, &mut words), None);
-    assert_eq!(rt; start(&rt, &mut ring, 64, 1, &mut words), None);
-    assert_eq!(rt; start(&rt, &mut ring, 65, 1, &mut words), Some(7));
-    assert_eq!(rt; start(&rt, &mut ring, 0, 0, &mut words), Some(7));
-    assert_eq!(rt; start(&rt, &mut ring, 0, 256, &mut words), None);
-    assert_eq!(rt; start(&rt, &mut ring, 0, 257, &mut words), Some(7));
+    assert_eq!(rt; start(&rt, &mut ring, frame(0, 1), &mut words), None);
+    assert_eq!(rt; start(&rt, &mut ring, frame(64, 1), &mut words), None);
+    assert_eq!(rt; start(&rt, &mut ring, frame(65, 1), &mut words), Some(7));
+    assert_eq!(rt; start(&rt, &mut ring, frame(0, 0), &mut words), Some(7));
+    assert_eq!(rt; start(&rt, &mut ring, frame(0, 256), &mut words), None);
+    assert_eq!(rt; start(&rt, &mut ring, frame(0, 257), &mut words), Some(7));
     Ok(())
 }
 
@@ -55,30 +58,30 @@ fn limits_of_a_frame(rt: HostRuntime) -> Result<(), Fail> {
 fn at_most_256_bits(rt: HostRuntime) -> Result<(), Fail> {
     let mut words = [0; 256];
     let mut one = galois(&[0])?;
-    assert_eq!(rt; start(&rt, &mut one, 0, 256, &mut words), None);
-    assert_eq!(rt; start(&rt, &mut one, 1, 256, &mut words), Some(9));
+    assert_eq!(rt; start(&rt, &mut one, frame(0, 256), &mut words), None);
+    assert_eq!(rt; start(&rt, &mut one, frame(1, 256), &mut words), Some(9));
     let mut two = galois(&[0, 1])?;
-    assert_eq!(rt; start(&rt, &mut two, 64, 64, &mut words), None);
-    assert_eq!(rt; start(&rt, &mut two, 64, 65, &mut words), Some(9));
+    assert_eq!(rt; start(&rt, &mut two, frame(64, 64), &mut words), None);
+    assert_eq!(rt; start(&rt, &mut two, frame(64, 65), &mut words), Some(9));
     let mut many = galois(&[1; 64])?;
-    assert_eq!(rt; start(&rt, &mut many, 3, 1, &mut words), None);
-    assert_eq!(rt; start(&rt, &mut many, 3, 2, &mut words), Some(9));
+    assert_eq!(rt; start(&rt, &mut many, frame(3, 1), &mut words), None);
+    assert_eq!(rt; start(&rt, &mut many, frame(3, 2), &mut words), Some(9));
     Ok(())
 }
 
 #[test]
 fn memory_for_each_position(rt: HostRuntime) -> Result<(), Fail> {
     let mut ring = ring_of_four()?;
-    assert_eq!(rt; start(&rt, &mut ring, 2, 2, &mut [0; 1]), Some(13));
-    assert_eq!(rt; start(&rt, &mut ring, 2, 2, &mut [0; 2]), None);
-    assert_eq!(rt; start(&rt, &mut ring, 2, 2, &mut [0; 3]), None);
+    assert_eq!(rt; start(&rt, &mut ring, frame(2, 2), &mut [0; 1]), Some(13));
+    assert_eq!(rt; start(&rt, &mut ring, frame(2, 2), &mut [0; 2]), None);
+    assert_eq!(rt; start(&rt, &mut ring, frame(2, 2), &mut [0; 3]), None);
     assert_eq!(rt;
-        start(&rt, &mut ring, 65, 2, &mut [0; 1]),
+        start(&rt, &mut ring, frame(65, 2), &mut [0; 1]),
         Some(7),
         "the frame goes before the memory"
     );
     assert_eq!(rt;
-        start(&rt, &mut ring, 1, 256, &mut [0; 1]),
+        start(&rt, &mut ring, frame(1, 256), &mut [0; 1]),
         Some(9),
         "the bits go before the memory"
     );
@@ -88,10 +91,7 @@ fn memory_for_each_position(rt: HostRuntime) -> Result<(), Fail> {
 #[test]
 fn a_checked_frame(rt: HostRuntime) -> Result<(), Fail> {
     let ring = ring_of_four()?;
-    let frame = Frame {
-        warmup: 2,
-        shifts: 3,
-    };
+    let frame = frame(2, 3);
     let fit = Fit::of(&ring, frame)?;
     assert_eq!(rt; fit.frame().warmup, 2);
     assert_eq!(rt; fit.frame().shifts, 3);
@@ -112,15 +112,14 @@ fn a_checked_frame(rt: HostRuntime) -> Result<(), Fail> {
 // The number with which a replay is refused, if it is; a refused one leaves cells and memory as they were.
 fn replayed(
     rt: &impl Abort,
-    warmup: usize,
-    shifts: usize,
+    frame: Frame,
     digits: &[u8],
     words: &mut [u64],
 ) -> Result<Option<u8>, Fail> {
     let mut ring = ring_of_four()?;
     ring.shift(1);
     words.fill(7);
-    let refused = number(replay(&mut ring, Frame { warmup, shifts }, digits, words));
+    let refused = number(replay(&mut ring, frame, digits, words));
     if refused.is_some() {
         assert_eq!(rt; ring.read(), 1);
         assert!(rt; words.iter().all(|word| *word == 7));
@@ -131,25 +130,31 @@ fn replayed(
 #[test]
 fn refusals_of_a_pattern(rt: HostRuntime) -> Result<(), Fail> {
     let mut words = [0; 3];
-    assert_eq!(rt; replayed(&rt, 2, 2, b"0011", &mut words)?, None);
-    assert_eq!(rt; replayed(&rt, 2, 2, b"001", &mut words)?, Some(7));
-    assert_eq!(rt; replayed(&rt, 2, 2, b"00110", &mut words)?, Some(7));
-    assert_eq!(rt; replayed(&rt, 65, 1, b"0011", &mut words)?, Some(7));
-    assert_eq!(rt; replayed(&rt, 2, 0, b"00", &mut words)?, Some(7));
-    assert_eq!(rt; replayed(&rt, 0, 257, &[b'0'; 257], &mut words)?, Some(7));
-    assert_eq!(rt; replayed(&rt, 1, 256, &[b'0'; 257], &mut words)?, Some(9));
+    assert_eq!(rt; replayed(&rt, frame(2, 2), b"0011", &mut words)?, None);
+    assert_eq!(rt; replayed(&rt, frame(2, 2), b"001", &mut words)?, Some(7));
+    assert_eq!(rt; replayed(&rt, frame(2, 2), b"00110", &mut words)?, Some(7));
+    assert_eq!(rt; replayed(&rt, frame(65, 1), b"0011", &mut words)?, Some(7));
+    assert_eq!(rt; replayed(&rt, frame(2, 0), b"00", &mut words)?, Some(7));
     assert_eq!(rt;
-        replayed(&rt, 1, 256, &[b'0'; 256], &mut words)?,
+        replayed(&rt, frame(0, 257), &[b'0'; 257], &mut words)?,
+        Some(7)
+    );
+    assert_eq!(rt;
+        replayed(&rt, frame(1, 256), &[b'0'; 257], &mut words)?,
+        Some(9)
+    );
+    assert_eq!(rt;
+        replayed(&rt, frame(1, 256), &[b'0'; 256], &mut words)?,
         Some(7),
         "the count goes before the bits"
     );
     assert_eq!(rt;
-        replayed(&rt, 0, 4, b"0012", &mut words)?,
+        replayed(&rt, frame(0, 4), b"0012", &mut words)?,
         Some(13),
         "the memory goes before a digit"
     );
-    assert_eq!(rt; replayed(&rt, 2, 2, b"0012", &mut words)?, Some(5));
-    assert_eq!(rt; replayed(&rt, 2, 2, b"/011", &mut words)?, Some(5));
+    assert_eq!(rt; replayed(&rt, frame(2, 2), b"0012", &mut words)?, Some(5));
+    assert_eq!(rt; replayed(&rt, frame(2, 2), b"/011", &mut words)?, Some(5));
     Ok(())
 }
 
@@ -182,7 +187,7 @@ fn mixed() -> [u8; 256] {
 
 // Both ways of loading 256 digits, from other cells and other memory.
 fn both_ways<M: Machine>(rt: &impl Abort, machine: &mut M, shifts: usize, digits: &[u8]) {
-    let frame = Frame { warmup: 0, shifts };
+    let frame = frame(0, shifts);
     let mut replayed = [5; 257];
     let mut shifted = [u64::MAX; 257];
     assert_eq!(rt; number(replay(machine, frame, digits, &mut replayed)), None);
@@ -199,6 +204,7 @@ fn both_ways<M: Machine>(rt: &impl Abort, machine: &mut M, shifts: usize, digits
     }
 }
 
+// Two tests and no table of machines: a test says by its name what failed.
 #[test]
 fn by_hand_and_replayed(rt: HostRuntime) -> Result<(), Fail> {
     let digits = mixed();
@@ -235,10 +241,7 @@ fn refused_shift<M: Machine>(
 fn cycles_one_by_one(rt: HostRuntime) -> Result<(), Fail> {
     let mut ring = ring_of_four()?;
     let mut words = [0; 2];
-    let frame = Frame {
-        warmup: 1,
-        shifts: 2,
-    };
+    let frame = frame(1, 2);
     let mut run = Loading::start(&mut ring, frame, &mut words)?;
     words.fill(u64::MAX);
     run.shift(&mut ring, 1, &mut words)?;
@@ -289,10 +292,7 @@ fn cycles_one_by_one(rt: HostRuntime) -> Result<(), Fail> {
 #[test]
 fn unloading_from_the_top(rt: HostRuntime) -> Result<(), Fail> {
     let mut ring = ring_of_four()?;
-    let frame = Frame {
-        warmup: 2,
-        shifts: 2,
-    };
+    let frame = frame(2, 2);
     let loaded = replay(&mut ring, frame, b"0011", &mut [0; 2])?;
     let Err(back) = loaded.capture(&[0; 2], &[0; 1]) else {
         return Err(Fail::new("captured without marks"));
@@ -320,10 +320,7 @@ fn unloading_from_the_top(rt: HostRuntime) -> Result<(), Fail> {
 #[test]
 fn unloading_256_positions(rt: HostRuntime) -> Result<(), Fail> {
     let mut ring = ring_of_four()?;
-    let frame = Frame {
-        warmup: 0,
-        shifts: 256,
-    };
+    let frame = frame(0, 256);
     let loaded = replay(&mut ring, frame, &[b'1'; 256], &mut [0; 256])?;
     let mut captured = loaded.capture(&[3; 256], &[1; 256]).map_err(Refusal::from)?;
     for _ in 0..256 {

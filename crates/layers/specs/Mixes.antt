@@ -1,9 +1,8 @@
 -- The phase shifter: its law, and the words that it goes by.
 use Rattle.std.specs.Prelude.{◌≡◌, ℕ, ◌≤◌, Bool, ◌&&◌, List, length, slice_index}
-use Rattle.std.proofs.Common.{ap, ◌∙◌, arith}
+use Rattle.std.proofs.Common.{ap, ◌∙◌}
 use Rattle.std.proofs.Math.Bool.{and-false}
 use Rattle.std.specs.Int.Bits.{bit_and}
-use Rattle.std.proofs.lemmas.List.{length-take}
 use Rattle.bits.specs.Rows.{Row, plus, upto, sum_of}
 use Rattle.bits.specs.Words.{bit_of, word_of}
 use Rattle.bits.proofs.Sums.{ext, and_xor, sum_plus, sum_same, sum_short, upto_at, upto_past}
@@ -11,6 +10,7 @@ use Rattle.bits.proofs.Bitwise.{bit_of_and, word_bits}
 use Rattle.machine.specs.Linear.{Linear, Superposes, Counted}
 use Rattle.lists.specs.declared.short_list.ShortList.{ShortList}
 use Rattle.lists.specs.Listed.{listed}
+use Rattle.lists.proofs.Lengths.{listed_few}
 use Rattle.layers.specs.Shifter.{mixed, shifter}
 
 mixed_plus : (n : ℕ) (sets : List ℕ) (s t : Row) → mixed n sets (plus s t) ≡ plus (mixed n sets s) (mixed n sets t)
@@ -26,9 +26,7 @@ superposes m sets law = record {
 
 pub counted : (m : Linear) (sets : ShortList ℕ 64) → 1 ≤ length (listed sets) → Counted m → Counted (shifter m (listed sets))
 counted m sets some below =
-    let room = sets.room in
-    let few : length (listed sets) ≤ 64 = omega (arith, length-take {A = ℕ}) in
-    record { channels_some = below.channels_some; channels_few = below.channels_few; outlets_some = some; outlets_few = few }
+    record { channels_some = below.channels_some; channels_few = below.channels_few; outlets_some = some; outlets_few = listed_few sets }
 
 -- the sum that one set takes of a word
 pub sum_and : (set word : ℕ) → sum_of 64 (bit_of (bit_and set word)) ≡ sum_of 64 (λ j. bit_of set j && bit_of word j)

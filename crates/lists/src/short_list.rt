@@ -4,7 +4,8 @@ mod items;
 
 use std::alloc::AllocError;
 
-// At most N items, in the order in which they were pushed: the first `count` of the array.
+// At most N items, in the order in which they were pushed: the first `count` of the array. The kit's list of fixed room cannot be copied, and
+// what holds these can be.
 pub struct ShortList<T, const N: usize> {
     items: [T; N],
     count: usize,
@@ -12,7 +13,7 @@ pub struct ShortList<T, const N: usize> {
     ghost room: { count ≤ N },
 }
 
-// By hand, since `Clone` is derived for no generic struct with a ghost field.
+// By hand: `#[derive(Clone, Copy)]` on a generic struct with a ghost field is refused (`derive-over-ghost-field`).
 impl<T: Copy, const N: usize> Clone for ShortList<T, N> {
     ghost is_clone = { λ list copy. copy ≡ list };
 

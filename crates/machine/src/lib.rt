@@ -8,8 +8,8 @@ ghost use Rattle.machine.specs.OnLists.{ListsAreLinear};
 
 // A machine is known by its meaning, which no call changes, and by its cells. No call refuses.
 //
-// That the meaning stays is said by each call that drives a machine, in its clause `same`: it is a matter of values, not of types, since a pile is
-// made from lines that are read, and to join it with the cells would put the meaning into every definition of what a call leaves.
+// Each call that drives a machine says in its clause `same` that the meaning stays. A type cannot say it: machines of one type have different
+// meanings. Joined with the cells, it would stand in every definition of what a call leaves.
 pub trait Machine {
     ghost meaning: { Self → Linear };
 

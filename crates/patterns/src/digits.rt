@@ -10,7 +10,8 @@ pub(crate) fn all_digits(bytes: &[u8]) -> bool
     bytes.iter().all(|byte| matches!(byte, b'0' | b'1'))
 }
 
-// The word whose bits are the digits.
+// The word whose bits are the digits. A shifter sums up a word likewise; one loop for both would be over an iterator that has to be shown to end,
+// and to end before the 65th bit.
 pub(crate) fn word_of(digits: &[u8]) -> u64
     requires { length digits.now ≤ 64 }
     ensures { result ≡ word_of (length digits.now) (digit_row digits.now) }

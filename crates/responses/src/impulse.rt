@@ -28,7 +28,7 @@ pub(crate) fn respond<M: Machine>(
     for cycle in (0..cycles).rev() {
         machine.shift(taken);
         taken = 0;
-        // The check takes an array from a call into a new variable only.
+        // Inside a loop the check takes an array from a call into a new variable only.
         let more = with_bit(
             coefficients,
             cycle * channels + channel,

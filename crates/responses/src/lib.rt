@@ -36,7 +36,7 @@ pub fn equation_of<M: Machine>(
     let cycle = fit.cycles() - bit.position;
     let mut coefficients = [0u64; 4];
     for channel in 0..fit.channels() {
-        // The check takes an array from a call into a new variable only.
+        // Inside a loop the check takes an array from a call into a new variable only.
         let more = respond(machine, coefficients, channel, cycle, bit.chain);
         coefficients = more;
     }

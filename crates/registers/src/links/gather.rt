@@ -11,7 +11,7 @@ use lists::ShortList;
 use refusals::{Gathers, Refusal};
 
 impl Links {
-    // No link yet, for a register of that size.
+    // No link yet, for a register of that size. Each part says itself how it is empty, as `Inlets` does.
     pub fn new(size: usize) -> Result<Links, Refusal>
         ensures { ok_map links_read result ≡ no_links size }
     {

@@ -15,7 +15,7 @@ impl TryFrom<usize> for Size {
     ghost try_from_gives = { λ cells result. ok_map (λ size. size.cells) result ≡ sized cells cells };
 
     fn try_from(cells: usize) -> Result<Size, Refusal> {
-        if cells < 2 || cells > 64 {
+        if !(2..=64).contains(&cells) {
             return Err(Refusal::OutOfRange);
         }
         Ok(Size { cells })

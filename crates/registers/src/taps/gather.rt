@@ -29,7 +29,7 @@ impl Gathers for Taps {
 
     // One tap more.
     fn add(&mut self, tap: usize) -> Result<(), Refusal> {
-        if tap < 1 || tap >= self.size.cells {
+        if !(1..self.size.cells).contains(&tap) {
             return Err(Refusal::OutOfRange);
         }
         if has(self.set, tap) {
