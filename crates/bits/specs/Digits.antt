@@ -15,6 +15,7 @@ digits_of n s = map digit_of (list_of n s)
 abbrev pub is_digit : ℕ → Bool
 is_digit d = d == 48 || d == 49
 
+-- each of some bytes is a digit
 abbrev pub all_digits : List ℕ → Bool
 all_digits = list_all is_digit
 

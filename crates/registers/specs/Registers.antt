@@ -50,9 +50,11 @@ ring n links into = register n into (ring_turn n links)
 abbrev pub wired : ℕ → (Row → Row) → InletsRead → Result Linear Refusal
 wired n turn inlets = refused_if (not (n == inlets.size) || nat_lt (length inlets.into) 1) OutOfRange (Ok (register n inlets.into turn))
 
+-- taps and inlets wired to a Galois register
 abbrev pub wired_galois : TapsRead → InletsRead → Result Linear Refusal
 wired_galois t = wired t.size (galois_turn t.size t.tapped)
 
+-- links and inlets wired to a ring generator
 abbrev pub wired_ring : LinksRead → InletsRead → Result Linear Refusal
 wired_ring t = wired t.size (ring_turn t.size t.links)
 

@@ -9,12 +9,15 @@ use Rattle.registers.specs.declared.inlets.Inlets.{Inlets}
 use Rattle.registers.specs.Rules.{TapsRead, LinksRead, InletsRead}
 use Rattle.registers.specs.Registers.{register}
 
+-- the size, and the set of the tapped cells
 abbrev pub taps_read : Taps → TapsRead
 taps_read t = record { size = t.size.cells; tapped = bit_of t.set }
 
+-- the size, and the links in the order of their lines
 abbrev pub links_read : Links → LinksRead
 links_read t = record { size = t.size.cells; links = listed t.links }
 
+-- the size, and the cells that the channels feed, channel by channel
 abbrev pub inlets_read : Inlets → InletsRead
 inlets_read t = record { size = t.size.cells; into = listed t.cells }
 

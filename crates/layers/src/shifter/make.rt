@@ -12,7 +12,7 @@ impl<M> PhaseShifter<M> {
     pub fn over(below: M, sets: OutletSets) -> Result<PhaseShifter<M>, HandedBack<M>>
         ensures { ok_map shifter_parts result ≡ shifter_over below (some_outlet (sets_read sets)) }
     {
-        if sets.words.len() < 1 {
+        if sets.words.as_slice().is_empty() {
             return Err(HandedBack {
                 value: below,
                 refusal: Refusal::OutOfRange,

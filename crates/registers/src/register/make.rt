@@ -14,7 +14,7 @@ impl<T: Turns + Drop> Register<T> {
     pub fn wired(turning: T, inlets: Inlets) -> Result<Register<T>, Refusal>
         ensures { ok_map register_state result ≡ ok_map at_reset (wired (T.size turning) (T.turned turning) (inlets_read inlets)) }
     {
-        if turning.size() != inlets.size.cells || inlets.channels() < 1 {
+        if turning.size() != inlets.size.cells || inlets.cells.as_slice().is_empty() {
             return Err(Refusal::OutOfRange);
         }
         Ok(Register {
