@@ -1,15 +1,11 @@
--- What a line answers where its conditions hold.
-use Rattle.std.proofs.Common.{◌≡◌, ℕ, ◌<◌, ◌≤◌, Bool, false, ◌||◌, cond, List, [], ◌∷◌, ◌++◌, length, get_or, Ok, arith}
+-- Links after a link more.
+use Rattle.std.proofs.Common.{◌≡◌, ℕ, ◌<◌, Bool, false, ◌||◌, cond, List, [], ◌∷◌, ◌++◌, length, get_or, arith}
 use mathlib.Core.Bool.{or-false}
 use Rattle.std.proofs.lemmas.List.Folds.{list_any_at, list_any-append}
 use Rattle.std.proofs.lemmas.Bool.Decides.{nat_tests}
 use Rattle.std.proofs.lemmas.Grind.{common_steps}
 use Rattle.registers.specs.declared.Link.{Link}
-use Rattle.registers.specs.Rules.{TapsRead, with_tap, tap_line, no_link, same_link, is_linked}
-
-pub tap_new : (t : TapsRead) (tap : ℕ) → 1 ≤ tap → tap < t.size → false ≡ t.tapped tap
-    → tap_line t tap ≡ Ok (with_tap t tap)
-tap_new t tap low high e = grind (arith, nat_tests)
+use Rattle.registers.specs.Rules.{no_link, same_link, is_linked}
 
 pub linked_push : (ls : List Link) (l link : Link) → is_linked (ls ++ (l ∷ [])) link ≡ (is_linked ls link || same_link l link)
 linked_push ls l link = simp (list_any-append, or-false)

@@ -1,14 +1,17 @@
-use Rattle.std.proofs.Common.{◌≡◌, ℕ, zero, ◌*◌, ◌%◌, ◌^◌, ◌<◌, ◌≤◌, length, get_or, sym, ap, ◌∙◌, subst, refl, lt_of_lt_of_le, arith, pow_pos, pow_mono}
+use Rattle.std.proofs.Common.{◌≡◌, ℕ, zero, ◌*◌, ◌%◌, ◌^◌, ◌<◌, ◌≤◌, length, get_or, ap, lt_of_lt_of_le, arith, pow_pos, pow_mono}
 use lib.Bits.{bit_xor, xor_lt}
 use lib.Count.{count_trailing_zeros}
 use lib.Pow.{pow-lt}
+use Rattle.std.proofs.lemmas.Bool.Decides.{nat_tests}
 use Rattle.std.proofs.lemmas.Nat.{one_shl}
-use Rattle.std.proofs.lemmas.List.Elements.{All-get_or}
-use Rattle.bits.specs.Words.{bit_of, word_of}
-use Rattle.bits.proofs.Bitwise.{lowest_set, set_below, clear_less, word_fits}
+use Rattle.bits.specs.Rows.{Row}
+use Rattle.bits.specs.Words.{bit_of}
+use Rattle.bits.proofs.Bitwise.{bit_zero, lowest_set, set_below, clear_less, word_bits, word_fits, word_is}
+use Rattle.bits.proofs.Sums.{ext, plus_zeros}
 use Rattle.lists.proofs.Lengths.{listed_few}
+use Rattle.registers.specs.Registers.{fed}
 use Rattle.registers.specs.Views.{inlets_read}
-use Rattle.registers.specs.Feeds.{walk_begins, walk_more, walk_ends}
+use Rattle.registers.specs.Feeds.{bits_flip, fed_one, fed_plus, fed_upto, fed_zeros}
 use Rattle.registers.proofs.inlets.Inlets.feed.Goals as goal
 
 -- the lowest bit of a word of n bits that is not 0
@@ -21,21 +24,17 @@ lowest : (rest n : ℕ) → (rest ≡ zero → ⊥) → rest < 2 ^ n → n ≤ 6
 lowest rest n some fits few =
     let p = count_trailing_zeros 64 rest in
     let set = lowest_set 64 rest some (lt_of_lt_of_le fits (pow_mono few)) in
-    record {
-      below = set_below rest n p fits set.1;
-      small = set.0;
-      less = subst (λ (x : ℕ). bit_xor rest x < rest) (sym (one_shl p 64 set.0)) (clear_less rest p set.1);
-    }
+    let small = set.0 in
+    record { below = set_below rest n p fits set.1; small = small; less = rw one_shl (clear_less rest p set.1) }
 
 pub loop-rest-init : goal.loop-rest-init
 loop-rest-init c =
     let t = c.args.self.now in
-    let n = length (inlets_read t).into in
-    let low : c.low-rest.result ≡ word_of n (bit_of c.args.word) = c.low-rest.ensures ∙ ap (λ (k : ℕ). word_of k (bit_of c.args.word)) c.channels-channels.ensures in
+    let low = rw c.channels-channels.ensures at c.low-rest.ensures in
     record {
-      low = subst (λ (x : ℕ). x < 2 ^ n) (sym low) (word_fits n (bit_of c.args.word));
+      low = rw low (word_fits (length (inlets_read t).into) (bit_of c.args.word));
       fits = pow_pos t.size.cells;
-      together = walk_begins (inlets_read t).into c.args.word c.low-rest.result n refl low;
+      together = simp (bit_zero, low, word_bits, fed_upto);
     }
 
 pub bounds-cells-channel : goal.bounds-cells-channel
@@ -54,16 +53,18 @@ loop-rest-preserved c =
     let inv = c.loop-rest.invariant in
     let low = lowest c.loop-rest.rest _ c.loop-rest-test.true inv.low (listed_few t.cells) in
     let cell = get_or into p 0 in
-    let inside : cell < t.size.cells = All-get_or (λ (x : ℕ). x < t.size.cells) into p 0 low.below t.inside in
+    let inside : cell < t.size.cells = t.inside p 0 low.below in
     let few : cell < 64 = lt_of_lt_of_le inside t.size.few in
     rw c.as_slice-cells.ensures
     (record {
       low = omega (arith, low.less, inv.low);
       fits = xor_lt t.size.cells _ _ inv.fits (rw (one_shl cell 64 few) (pow-lt inside));
-      together = walk_more into c.loop-rest.fill c.loop-rest.rest p cell low.below low.small refl few ∙ inv.together;
+      together = rw (← inv.together) (simp (bits_flip, fed_plus, fed_one, low.small, low.below) (ext (λ i. grind (arith, nat_tests))));
     })
 
 pub returns : goal.returns
 returns c =
     let t = c.args.self.now in
-    walk_ends (inlets_read t).into c.loop-rest.fill c.loop-rest.rest c.args.word t.size.cells c.loop-rest.invariant.fits c.loop-rest-test.false c.loop-rest.invariant.together
+    let inv = c.loop-rest.invariant in
+    let same : bit_of c.loop-rest.fill ≡ fed (inlets_read t).into (bit_of c.args.word) = simp (c.loop-rest-test.false, bit_zero, fed_zeros, plus_zeros) at inv.together in
+    word_is t.size.cells _ _ inv.fits (λ i h. ap (λ (s : Row). s i) same)

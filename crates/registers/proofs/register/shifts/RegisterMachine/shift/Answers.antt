@@ -1,23 +1,13 @@
 use Rattle.std.proofs.Common.{refl}
-use Rattle.bits.specs.Words.{bit_of}
-use Rattle.registers.specs.Views.{inlets_read}
-use Rattle.registers.specs.Laws.{shifted_fits, shifted_is}
+use Rattle.std.proofs.lemmas.Nat.{xor_lt}
+use Rattle.bits.proofs.Bitwise.{word_bits, word_fits, word_plus}
+use Rattle.registers.specs.Feeds.{fed_upto}
 use Rattle.registers.proofs.register.shifts.RegisterMachine.shift.Goals as goal
 
-pub invariant_of-self : goal.invariant_of-self
-invariant_of-self g c =
+pub invariant_of-self-clause-held : goal.invariant_of-self-clause-held
+invariant_of-self-clause-held g c =
     let r = c.args.self.now in
-    let fits =
-    shifted_fits (g.T.Turns.size r.turning) r.inlets.size.cells c.args.word c.turn.result c.feed.result (inlets_read r.inlets).into (g.T.Turns.turned r.turning)
-    (bit_of r.cells) r.alike c.turn.ensures c.feed.ensures in
-    record { alike = r.alike; some = r.some; held = fits }
+    rw (c.turn.ensures, c.feed.ensures, ← r.alike) (xor_lt (g.T.Turns.size r.turning) _ _ (word_fits _ _) (word_fits _ _))
 
 pub returns : goal.returns
-returns g c =
-    let r = c.args.self.now in
-    record {
-      same = refl;
-      after =
-          shifted_is (g.T.Turns.size r.turning) r.inlets.size.cells c.args.word c.turn.result c.feed.result (inlets_read r.inlets).into (g.T.Turns.turned r.turning)
-          (bit_of r.cells) r.alike c.turn.ensures c.feed.ensures;
-    }
+returns g c = record { same = refl; after = simp (c.turn.ensures, c.feed.ensures, c.args.self.now.alike, word_plus, word_bits, fed_upto) }
