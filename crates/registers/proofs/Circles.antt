@@ -1,8 +1,8 @@
 -- The words that a shift goes by hold what its definition says.
-use Rattle.std.proofs.Common.{◌≡◌, ℕ, zero, suc, ◌-◌, ◌*◌, ◌/◌, ◌%◌, ◌^◌, ◌<◌, ◌≤◌, Bool, true, ◌&&◌, eqb, List, [], ◌∷◌, ◌++◌, lt_of_lt_of_le, arith, pow_mono}
-use lib.Bits.{bit_and, bit_or, bit_xor, or_lt, xor_lt}
+use Rattle.std.proofs.Common.{◌≡◌, ℕ, zero, suc, ◌-◌, ◌*◌, ◌/◌, ◌%◌, ◌^◌, ◌<◌, ◌≤◌, true, ◌&&◌, eqb, List, [], ◌∷◌, ◌++◌, arith, pow_mono}
+use lib.Bits.{bit_and, bit_or, bit_xor}
 use mir.Val.{bool_byte}
-use Rattle.std.proofs.lemmas.Nat.{shl_whole}
+use Rattle.std.proofs.lemmas.Nat.{shl_whole, or_lt, xor_lt}
 use Rattle.std.proofs.lemmas.Bool.Decides.{nat_tests}
 use Rattle.std.proofs.lemmas.Grind.{common_steps}
 use Rattle.bits.specs.Rows.{Row, xor}
@@ -12,16 +12,10 @@ use Rattle.bits.proofs.Bitwise.{bit_first, bit_above, bit_of_or, bit_of_xor, bit
 use Rattle.registers.specs.declared.Link.{Link}
 use Rattle.registers.specs.Registers.{before, galois_turn, ring_turn, linked_into}
 
-byte_small : (b : Bool) → bool_byte b < 2 ^ 1
-byte_small b = grind (arith, nat_tests)
-
 -- the cells but the last moved up, and the last as the first
 module _ (n lo : ℕ) (s : Row) (some : 2 ≤ n) (few : n ≤ 64) (low : lo ≡ word_of (n - 1) s) where
   moved_is : (lo * 2) % 2 ^ 64 ≡ word_of (n - 1) s * 2
   moved_is = rw low (shl_whole (word_of (n - 1) s) (n - 1) 1 64 (word_fits (n - 1) s) (omega arith))
-
-  moved_fits : (lo * 2) % 2 ^ 64 < 2 ^ n
-  moved_fits = rw moved_is (grind (arith, common_steps, word_fits (n - 1) s))
 
   circled_at : (i : ℕ) → i < n → bit_of (bit_or ((lo * 2) % 2 ^ 64) (bool_byte (s (n - 1)))) i ≡ s (before n i)
   circled_at zero h = rw (bit_of_or, moved_is, bit_double_first) (grind (arith, nat_tests, bit_first))
@@ -32,7 +26,9 @@ module _ (n lo : ℕ) (s : Row) (some : 2 ≤ n) (few : n ≤ 64) (low : lo ≡ 
   pub circled_is : bit_or ((lo * 2) % 2 ^ 64) (bool_byte (s (n - 1))) ≡ word_of n (λ i. s (before n i))
   circled_is =
       let one : 1 ≤ n = omega arith in
-      word_is n _ (λ i. s (before n i)) (or_lt n _ _ moved_fits (lt_of_lt_of_le (byte_small (s (n - 1))) (pow_mono one))) circled_at
+      let two : 2 ≤ 2 ^ n = pow_mono one in
+      word_is n _ (λ i. s (before n i)) (or_lt n ((lo * 2) % 2 ^ 64) (bool_byte (s (n - 1))) (rw moved_is (grind (arith, common_steps, word_fits (n - 1) s))) (grind (arith, nat_tests)))
+      circled_at
 
 -- the last cell is 1, so it is added to the tapped cells
 pub tapped_is : (n moved taps : ℕ) (s : Row) → taps < 2 ^ n → moved ≡ word_of n (λ i. s (before n i)) → true ≡ s (n - 1)

@@ -5,6 +5,7 @@ use Rattle.std.specs.Result.{OkIff}
 use mathlib.Core.Bool.{or-false, or_assoc}
 use mathlib.Core.Logic.{◌↔◌}
 use Rattle.std.proofs.lemmas.List.{append-nil, length-append}
+use Rattle.std.proofs.lemmas.List.Folds.{list_any-append}
 use Rattle.std.proofs.lemmas.List.Elements.{All-cons, All-from_get_or}
 use Rattle.std.proofs.lemmas.Bool.Decides.{nat_tests, Decides-eqb}
 use Rattle.std.proofs.lemmas.Grind.{common_steps}
@@ -16,7 +17,6 @@ use Rattle.registers.specs.declared.Link.{Link}
 use Rattle.registers.specs.Rules.{sized, TapsRead, with_tap, tap_line, tap_lines, LinksRead, with_link, link_line, link_lines, InletsRead, with_inlet, inlet_line, inlet_lines, Lawful, no_link, same_link, is_linked}
 use Rattle.registers.specs.Registers.{register, galois, galois_turn, ring, ring_turn, wired, galois_from, ring_from}
 use Rattle.registers.specs.Allowed.{among, SizeAllowed, InletsAllowed, GaloisAllowed, RingAllowed, GaloisExactly, RingExactly}
-use Rattle.registers.proofs.Rules.{linked_push}
 
 -- ---- steps that are accepted exactly where a condition holds
 
@@ -107,6 +107,9 @@ taps_ok t (x ∷ xs) =
 
 link_decides : (a b : Link) → Decides (same_link a b) (a ≡ b)
 link_decides a b = (λ e. grind (arith, nat_tests), λ e. grind (arith, nat_tests))
+
+linked_push : (ls : List Link) (l link : Link) → is_linked (ls ++ (l ∷ [])) link ≡ (is_linked ls link || same_link l link)
+linked_push ls l link = simp (list_any-append, or-false)
 
 links_ok : (t : LinksRead) (links : List Link) → length t.links ≤ 16
     → OkIff (reading link_line t links) (New (Lawful t.size) no_link (is_linked t.links) links × (length t.links + length links ≤ 16)) (record { size = t.size; links = t.links ++ links })

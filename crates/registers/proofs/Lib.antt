@@ -1,3 +1,2 @@
-mod Rules
 mod Circles
 mod Exactly

@@ -1,15 +1,13 @@
-use Rattle.std.proofs.Common.{◌≡◌, ℕ, zero, ◌*◌, ◌%◌, ◌^◌, ◌<◌, ◌≤◌, length, get_or, ap, lt_of_lt_of_le, arith, pow_pos, pow_mono}
-use lib.Bits.{bit_xor, xor_lt}
+use Rattle.std.proofs.Common.{◌≡◌, ℕ, zero, ◌*◌, ◌%◌, ◌^◌, ◌<◌, ◌≤◌, length, get_or, lt_of_lt_of_le, arith, pow_pos, pow_mono}
+use lib.Bits.{bit_xor}
 use lib.Count.{count_trailing_zeros}
 use lib.Pow.{pow-lt}
 use Rattle.std.proofs.lemmas.Bool.Decides.{nat_tests}
-use Rattle.std.proofs.lemmas.Nat.{one_shl}
-use Rattle.bits.specs.Rows.{Row}
+use Rattle.std.proofs.lemmas.Nat.{one_shl, xor_lt}
 use Rattle.bits.specs.Words.{bit_of}
-use Rattle.bits.proofs.Bitwise.{bit_zero, lowest_set, set_below, clear_less, word_bits, word_fits, word_is}
+use Rattle.bits.proofs.Bitwise.{bit_zero, lowest_set, set_below, clear_less, word_bits, word_fits, word_self}
 use Rattle.bits.proofs.Sums.{ext, plus_zeros}
 use Rattle.lists.proofs.Lengths.{listed_few}
-use Rattle.registers.specs.Registers.{fed}
 use Rattle.registers.specs.Views.{inlets_read}
 use Rattle.registers.specs.Feeds.{bits_flip, fed_one, fed_plus, fed_upto, fed_zeros}
 use Rattle.registers.proofs.inlets.Inlets.feed.Goals as goal
@@ -64,7 +62,6 @@ loop-rest-preserved c =
 
 pub returns : goal.returns
 returns c =
-    let t = c.args.self.now in
     let inv = c.loop-rest.invariant in
-    let same : bit_of c.loop-rest.fill ≡ fed (inlets_read t).into (bit_of c.args.word) = simp (c.loop-rest-test.false, bit_zero, fed_zeros, plus_zeros) at inv.together in
-    word_is t.size.cells _ _ inv.fits (λ i h. ap (λ (s : Row). s i) same)
+    let left = simp (c.loop-rest-test.false, bit_zero, fed_zeros, plus_zeros) at inv.together in
+    rw left at (word_self c.args.self.now.size.cells _ inv.fits)
