@@ -16,9 +16,11 @@ use Rattle.equations.proofs.Reductions.{Keeps, keeps, lead_low, number_more, roo
 use Rattle.equations.proofs.Solved.{system_number}
 use Rattle.refusals.specs.declared.Refusal.{Refusal}
 use Rattle.refusals.specs.declared.Refusal.TheVariants.{Conflict}
+use Rattle.scan.specs.declared.fit.Fit.{Fit}
 use Rattle.scan.specs.Frames.{variables}
 use Rattle.session.specs.declared.in_force.InForce.{InForce}
 use Rattle.session.specs.declared.table.EquationTable.{EquationTable}
+use Rattle.session.specs.Fits.{fitting_at}
 use Rattle.session.specs.Judgements.{Judged}
 use Rattle.session.specs.Lent.{Lent}
 use Rattle.session.specs.Sessions.{judging, with_row, After}
@@ -36,14 +38,19 @@ pub left_leads : (v : ℕ) (rows : List Equation) (e r : Equation) (w : ℕ) →
 left_leads v rows e r w within reduced lead =
     ap (is_below v) lead ∙ lt-ltb w v (lead_low v rows (length rows) e r reduced (λ x. holds e (row_of x)) (λ x _. refl) w lead within)
 
+-- a fit leaves room, and where there was no opening nothing is needed
+pub few_at : (o : Option Fit) → variables (fitting_at o).channels (fitting_at o).frame ≤ 256
+few_at None = omega arith
+few_at (Some f) = f.few
+
 -- what a table keeps when such an equation is written into the row after the first n
-pub kept : (t : EquationTable) (n : ℕ) (r : Equation) → n ≤ t.written → is_below (variables t.fit.channels t.fit.frame) (lead_of r) ≡ true → ClearOf t.rows n r
-    → Keeps (variables t.fit.channels t.fit.frame) t.rows n r
+pub kept : (t : EquationTable) (n : ℕ) (r : Equation) → n ≤ t.written → is_below (variables (fitting_at t.fit).channels (fitting_at t.fit).frame) (lead_of r) ≡ true → ClearOf t.rows n r
+    → Keeps (variables (fitting_at t.fit).channels (fitting_at t.fit).frame) t.rows n r
 kept t n r up lead clear =
-    let few = t.fit.few in
+    let few = few_at t.fit in
     let long = t.long in
     let room = t.room in
-    keeps (variables t.fit.channels t.fit.frame) t.rows t.written n r up (omega arith) (omega arith) t.led t.apart t.clear lead clear
+    keeps (variables (fitting_at t.fit).channels (fitting_at t.fit).frame) t.rows t.written n r up (omega arith) (omega arith) t.led t.apart t.clear lead clear
 
 -- numbers weighed: none is left, as many, or fewer
 weighed_none : (a b : ℕ) → b ≡ 0 → weighed a b ≡ Err Conflict
@@ -67,7 +74,7 @@ none_pass false q h = refl
 -- an equation beside the first n rows of a table
 module _ (t : EquationTable) (n : ℕ) (e : Equation) (up : n ≤ t.written) where
   abbrev vars : ℕ
-  vars = variables t.fit.channels t.fit.frame
+  vars = variables (fitting_at t.fit).channels (fitting_at t.fit).frame
 
   abbrev bit : Test
   bit x = holds e (row_of x)

@@ -19,12 +19,13 @@ use Rattle.scan.specs.Frames.{span, variables, out_of_limits, in_limits, in_span
 use Rattle.session.specs.declared.in_force.InForce.{InForce}
 use Rattle.session.specs.declared.table.EquationTable.{EquationTable}
 use Rattle.session.specs.Dialogues.{ToldTruly}
+use Rattle.session.specs.Fits.{fitting_at}
 use Rattle.session.specs.Judgements.{Judged}
 use Rattle.session.specs.Lent.{Lent}
 use Rattle.session.specs.Sessions.{Session, is_like, in_force, proposable, judging, After, Proposed}
 use Rattle.session.specs.Standing.{loading, weighed}
 use Rattle.session.specs.Views.{session_at}
-use Rattle.session.proofs.Entering.{of_lent, reduced, follows_answer, follows_after, conflict_answer, conflict_after, new_answer, new_after}
+use Rattle.session.proofs.Entering.{few_at, of_lent, reduced, follows_answer, follows_after, conflict_answer, conflict_after, new_answer, new_after}
 use Rattle.session.proofs.Truths.{propose_true}
 
 -- a proposal that does what it should answers truly
@@ -33,12 +34,12 @@ truly m s b r t p bits st = propose_true m s.frame s bits st b r t p
 
 -- a proposal on a machine like the one at the opening, whose bit is in range: the equations in force are lent, and the bit has its equation
 module _ (m : Linear) (t : EquationTable) (n : ℕ) (b : CareBit) (s : InForce) (lent : Lent t n (Ok s)) (like : is_like m (session_at t n) ≡ true)
-    (f : Frame) (same_frame : f ≡ t.fit.frame) (accepted : Ok (tt {0}) ≡ in_limits f (in_span m.channels f (in_chains m f b (Ok (tt {0})))))
+    (f : Frame) (same_frame : f ≡ (fitting_at t.fit).frame) (accepted : Ok (tt {0}) ≡ in_limits f (in_span m.channels f (in_chains m f b (Ok (tt {0})))))
     (e : Equation) (is : EquationOf m f b e) where
-  channels : m.channels ≡ t.fit.channels
-  channels = eqb-true m.channels t.fit.channels (and_parts (eqb m.channels t.fit.channels) (eqb m.outlets t.fit.outlets) like).0
+  channels : m.channels ≡ (fitting_at t.fit).channels
+  channels = eqb-true m.channels (fitting_at t.fit).channels (and_parts (eqb m.channels (fitting_at t.fit).channels) (eqb m.outlets (fitting_at t.fit).outlets) like).0
 
-  within_range : is_in_range m t.fit.frame b ≡ true
+  within_range : is_in_range m (fitting_at t.fit).frame b ≡ true
   within_range = subst (λ (g : Frame). is_in_range m g b ≡ true) same_frame (go (out_of_limits f) (ltb 256 (span m.channels f)) (is_in_range m f b) accepted)
     where
       go : (p q r : Bool) → Ok (tt {0}) ≡ refused_if p OutOfRange (refused_if q TooMany (refused_if (not r) OutOfRange (Ok (tt {0})))) → r ≡ true
@@ -50,17 +51,17 @@ module _ (m : Linear) (t : EquationTable) (n : ℕ) (b : CareBit) (s : InForce) 
   passes_to : (r : Result ℕ Refusal) → proposable m (session_at t n) b r ≡ r
   passes_to r = cond-false _ _ _ (le-ltb t.written n lent.0) ∙ cond-false _ _ _ (ap not like) ∙ cond-false _ _ _ (ap not within_range)
 
-  equation : EquationOf m t.fit.frame b e
+  equation : EquationOf m (fitting_at t.fit).frame b e
   equation = subst (λ (g : Frame). EquationOf m g b e) same_frame is
 
-  same_test : (x : List Bool) → length x ≡ variables t.fit.channels t.fit.frame
-      → both (in_force (session_at t n)) (λ y. holds e (row_of y)) x ≡ both (in_force (session_at t n)) (loading m t.fit.frame b) x
-  same_test x l = ap (λ (p : Bool). in_force (session_at t n) x && p) (let k = t.fit.few in equation.told x (omega arith))
+  same_test : (x : List Bool) → length x ≡ variables (fitting_at t.fit).channels (fitting_at t.fit).frame
+      → both (in_force (session_at t n)) (λ y. holds e (row_of y)) x ≡ both (in_force (session_at t n)) (loading m (fitting_at t.fit).frame b) x
+  same_test x l = ap (λ (p : Bool). in_force (session_at t n) x && p) (let k = few_at t.fit in equation.told x (omega arith))
 
   in_proposed : (r : Result ℕ Refusal) (u : Session) → r ≡ judging (session_at t n) (λ x. holds e (row_of x))
       → After (session_at t n) (λ x. holds e (row_of x)) r u → Proposed m (session_at t n) b r u
   in_proposed r u judged after = record {
-    answer = judged ∙ ap (weighed (number (variables t.fit.channels t.fit.frame) (in_force (session_at t n)))) (number_same (variables t.fit.channels t.fit.frame) _ _ same_test) ∙ sym (passes_to _);
+    answer = judged ∙ ap (weighed (number (variables (fitting_at t.fit).channels (fitting_at t.fit).frame) (in_force (session_at t n)))) (number_same (variables (fitting_at t.fit).channels (fitting_at t.fit).frame) _ _ same_test) ∙ sym (passes_to _);
     after = record {
       unchanged = after.unchanged;
       written = after.written;
@@ -68,8 +69,8 @@ module _ (m : Linear) (t : EquationTable) (n : ℕ) (b : CareBit) (s : InForce) 
     };
   }
 
-  within : Within (variables t.fit.channels t.fit.frame) e
-  within i h l = equation.past i (subst (λ (k : ℕ). variables k t.fit.frame ≤ i) (sym channels) h)
+  within : Within (variables (fitting_at t.fit).channels (fitting_at t.fit).frame) e
+  within i h l = equation.past i (subst (λ (k : ℕ). variables k (fitting_at t.fit).frame ≤ i) (sym channels) h)
 
   -- the equation follows from those in force, or contradicts them
   pub follows : (o : Option Equation) → o ≡ None → Judged s.variables s.rows.now e (Ok o) → Proposed m (session_at t n) b (Ok 0) (session_at t n)
@@ -84,7 +85,7 @@ module _ (m : Linear) (t : EquationTable) (n : ℕ) (b : CareBit) (s : InForce) 
 
   -- or is new
   module _ (o : Option Equation) (r : Equation) (some : o ≡ Some r) (judged : Judged s.variables s.rows.now e (Ok o)) where
-    new : Judged (variables t.fit.channels t.fit.frame) (take n t.rows) e (Ok (Some r))
+    new : Judged (variables (fitting_at t.fit).channels (fitting_at t.fit).frame) (take n t.rows) e (Ok (Some r))
     new = of_lent t n e lent.0 s (Ok (Some r)) lent (subst (λ (p : Option Equation). Judged s.variables s.rows.now e (Ok p)) some judged)
 
     pub clear_of_them : ClearOf t.rows n r

@@ -1,3 +1,4 @@
+pub mod Fits
 pub mod Standing
 pub mod Sessions
 pub mod Views

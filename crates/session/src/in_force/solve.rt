@@ -27,6 +27,7 @@ impl<'a> InForce<'a> {
     {
         self.leaders().iter().enumerate().fold(
             [0; 4],
+            // The clause is written, as what is inferred for a closure whose parameter holds a reference in an Option says nothing of its result.
             |solution, (v, leader)|
                 ensures { Told solution v leader.entry.now result }
             {

@@ -1,4 +1,4 @@
-ghost use Rattle.std.specs.Prelude.{◌≡◌};
+ghost use Rattle.std.specs.Prelude.{◌≡◌, Some};
 
 use crate::table::EquationTable;
 use scan::Fit;
@@ -8,9 +8,9 @@ impl EquationTable {
     pub(crate) fn clear(&mut self, fit: Fit)
         ensures rows { self.new.rows ≡ self.old.rows }
         ensures written { self.new.written ≡ 0 }
-        ensures fit { self.new.fit ≡ fit }
+        ensures fit { self.new.fit ≡ Some fit }
     {
         self.written = 0;
-        self.fit = fit;
+        self.fit = Some(fit);
     }
 }

@@ -15,7 +15,7 @@ impl EquationTable {
             .ok_or(Refusal::CounterAhead)?;
         Ok(InForce {
             rows,
-            variables: self.fit.variables(),
+            variables: self.fit.map_or(0, |fit| fit.variables()),
         })
     }
 }

@@ -1,5 +1,5 @@
 ghost use Rattle.std.specs.Prelude.{◌≡◌};
-ghost use Rattle.scan.specs.Views.{fitting_of};
+ghost use Rattle.session.specs.Fits.{fitting_at};
 
 use crate::table::EquationTable;
 use scan::Frame;
@@ -7,15 +7,19 @@ use scan::Frame;
 impl EquationTable {
     // The frame of the opening; before any, one of no cycles.
     pub fn frame(&self) -> Frame
-        ensures { result ≡ (fitting_of self.now.fit).frame }
+        ensures { result ≡ (fitting_at self.now.fit).frame }
     {
-        self.fit.frame()
+        let unopened = Frame {
+            warmup: 0,
+            shifts: 0,
+        };
+        self.fit.map_or(unopened, |fit| fit.frame())
     }
 
     // The outlets of the machine at the opening, which are the chains; before any opening, 0.
     pub fn chains(&self) -> usize
-        ensures { result ≡ (fitting_of self.now.fit).outlets }
+        ensures { result ≡ (fitting_at self.now.fit).outlets }
     {
-        self.fit.outlets()
+        self.fit.map_or(0, |fit| fit.outlets())
     }
 }

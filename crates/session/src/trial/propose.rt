@@ -28,10 +28,12 @@ impl Trial<'_> {
         ensures truly { ToldTruly (M.meaning machine.old) (session_of table.old self.old.counter.now) bit result (session_of table.new self.new.counter.now) }
     {
         let in_force = table.in_force(self.counter)?;
-        if !table.fit.suits(machine) {
+        // No machine is like that of a table that was never opened.
+        let fit = table.fit.ok_or(Refusal::OutOfRange)?;
+        if !fit.suits(machine) {
             return Err(Refusal::OutOfRange);
         }
-        let equation = equation_of(machine, table.fit.frame(), bit)?;
+        let equation = equation_of(machine, fit.frame(), bit)?;
         let Some(row) = in_force.weigh(equation)? else {
             return Ok(0);
         };

@@ -1,4 +1,5 @@
 use Rattle.std.proofs.Common.{rules, ◌≡◌, Ok}
+use Rattle.session.specs.Fits.{fitting_at}
 use Rattle.session.specs.Sessions.{freeing}
 use Rattle.session.specs.Views.{session_of}
 use Rattle.session.proofs.Openings.{halved}
@@ -13,4 +14,4 @@ returns-clause-truly c m bits st =
     let t = c.args.table.now in
     let n = c.args.counter.now.count in
     let answer : Ok c.free.result ≡ freeing (session_of t c.args.counter.now) = search rules in
-    free_true m t.fit.frame (session_of t c.args.counter.now) bits st (Ok c.free.result) answer (halved t n)
+    free_true m (fitting_at t.fit).frame (session_of t c.args.counter.now) bits st (Ok c.free.result) answer (halved t n)

@@ -1,5 +1,6 @@
 use Rattle.std.proofs.Common.{rules, arith, Ok}
 use Rattle.std.proofs.lemmas.Grind.{common_steps}
+use Rattle.session.specs.Fits.{fitting_at}
 use Rattle.session.specs.Views.{session_of}
 use Rattle.session.proofs.Openings.{halved}
 use Rattle.session.proofs.Truths.{pattern_true}
@@ -16,4 +17,4 @@ returns-clause-truly c m bits st =
     let t = c.args.table.now in
     let n = c.args.counter.now.count in
     let s = session_of t c.args.counter.now in
-    pattern_true m t.fit.frame s bits st c.args.digits.now (Ok tt) _ (search rules) (grind (arith, common_steps)) (halved t n)
+    pattern_true m (fitting_at t.fit).frame s bits st c.args.digits.now (Ok tt) _ (search rules) (grind (arith, common_steps)) (halved t n)
