@@ -1,6 +1,6 @@
 -- Chain memory: its words one by one, and when it holds given chains.
-use Rattle.std.proofs.Common.{◌≡◌, ℕ, zero, suc, ◌+◌, ◌-◌, ◌^◌, ◌<◌, ◌≤◌, List, ◌∷◌, [], ◌++◌, length, get_or, take, drop, set, replicate, sym, refl, ap, ◌∙◌, subst, ap₂, add-one, arith}
-use Rattle.std.proofs.lemmas.List.{length-append, length-drop, length-take-le, get_or-take, get_or_append_left, get_or-append_right, get_or-drop}
+use Rattle.std.proofs.Common.{◌≡◌, ℕ, zero, suc, ◌+◌, ◌-◌, ◌^◌, ◌<◌, ◌≤◌, List, ◌∷◌, [], ◌++◌, length, get_or, drop, set, replicate, sym, refl, ap, ◌∙◌, subst, ap₂, add-one, arith}
+use Rattle.std.proofs.lemmas.List.{length-append, length-drop, get_or_append_left, get_or-append_right, get_or-drop, drop_at}
 use Rattle.bits.specs.Rows.{Row}
 use Rattle.bits.specs.Words.{bit_of, word_of}
 use Rattle.bits.proofs.Bitwise.{word_zeros, word_self, word_fits}
@@ -16,6 +16,11 @@ pub words_at : (n c : ℕ) (h : Chains) (p : ℕ) → p < n → get_or (words_of
 words_at zero c h p l = absurd (omega arith)
 words_at (suc n) c h zero l = refl
 words_at (suc n) c h (suc p) l = words_at n c (λ q. h (suc q)) p (omega arith)
+
+pub words_same : (n c : ℕ) (h k : Chains) → ((p : ℕ) → p < n → word_of c (h p) ≡ word_of c (k p)) → words_of n c h ≡ words_of n c k
+words_same zero c h k same = refl
+words_same (suc n) c h k same =
+    ap₂ (λ (w : ℕ) (ws : List ℕ). w ∷ ws) (same zero (omega arith)) (words_same n c (λ p. h (suc p)) (λ p. k (suc p)) (λ p l. same (suc p) (omega arith)))
 
 pub words_empty : (n c : ℕ) → replicate n 0 ≡ words_of n c empty
 words_empty zero c = refl
@@ -37,11 +42,10 @@ module _ (n c : ℕ) (h : Chains) (memory : List ℕ) (room : n ≤ length memor
       ∙ ap (λ (q : ℕ). get_or memory q 0) e
 
 -- what the next position takes is what stood where the chains are written next
-pub next_carried : (n m c : ℕ) (first : Row) (h : Chains) (memory : List ℕ) → m ≤ length memory → n < m
-    → word_of c (bit_of (get_or (holding n c h (take m memory)) n 0)) ≡ word_of c (moved_up first (chains_in memory) (n + 1))
-next_carried n m c first h memory room l =
-    let long = length-take-le m memory room in
-    ap (λ (w : ℕ). word_of c (bit_of w)) (holding_past n c h (take m memory) (omega arith) n (omega arith) ∙ get_or-take m memory n 0 l)
+pub next_carried : (n c : ℕ) (first : Row) (h : Chains) (memory : List ℕ) → n < length memory
+    → word_of c (bit_of (get_or (holding n c h memory) n 0)) ≡ word_of c (moved_up first (chains_in memory) (n + 1))
+next_carried n c first h memory l =
+    ap (λ (w : ℕ). word_of c (bit_of w)) (holding_past n c h memory (omega arith) n (omega arith))
     ∙ ap (λ (q : ℕ). word_of c (moved_up first (chains_in memory) q)) (sym (add-one n))
 
 -- one word more of the chains is written
@@ -53,6 +57,25 @@ holding_more n c w h memory l is = go n h memory l is ∙ ap (λ (k : ℕ). hold
     go n h [] l is = absurd (omega arith)
     go zero h (x ∷ memory) l is = ap (λ (v : ℕ). v ∷ memory) is
     go (suc n) h (x ∷ memory) l is = ap (λ (ws : List ℕ). word_of c (h zero) ∷ ws) (go n (λ p. h (suc p)) memory (omega arith) is)
+
+-- memory cut into the words of the chains and the later ones, where the words alone are written
+module _ (n c : ℕ) (words rest memory : List ℕ) (cut : memory ≡ words ++ rest) (all : length words ≡ n) where
+  later : rest ≡ drop n memory
+  later = sym (ap (λ (ws : List ℕ). drop n ws) cut ∙ drop_at words rest n all)
+
+  pub cleared_words : (written : List ℕ) → written ≡ replicate (length words) 0 → written ++ rest ≡ holding n c empty memory
+  cleared_words written is = ap₂ (λ (front back : List ℕ). front ++ back) (is ∙ ap (λ (k : ℕ). replicate k 0) all ∙ words_empty n c) later
+
+  pub moved_words : (first : Row) (written : List ℕ) → written ≡ words_of (length words) c (moved_up first (chains_in words))
+      → written ++ rest ≡ holding n c (moved_up first (chains_in memory)) memory
+  moved_words first written is =
+      ap₂ (λ (front back : List ℕ). front ++ back)
+      (is ∙ ap (λ (k : ℕ). words_of k c (moved_up first (chains_in words))) all ∙ words_same n c _ _ same) later
+    where
+      same : (p : ℕ) → p < n → word_of c (moved_up first (chains_in words) p) ≡ word_of c (moved_up first (chains_in memory) p)
+      same zero l = refl
+      same (suc p) l =
+          ap (λ (w : ℕ). word_of c (bit_of w)) (sym (ap (λ (ws : List ℕ). get_or ws p 0) cut ∙ get_or_append_left words rest 0 p (omega arith)))
 
 -- only as many bits of what enters count as there are chains
 pub holding_entering : (n c : ℕ) (s t : Row) (h : Chains) (memory : List ℕ) → word_of c s ≡ word_of c t

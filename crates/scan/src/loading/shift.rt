@@ -25,16 +25,16 @@ impl Loading {
         if !fit.suits(machine) {
             return Err(Refusal::OutOfRange);
         }
-        if chains.len() < fit.frame.shifts {
-            return Err(Refusal::MemoryTooShort);
-        }
+        let (words, _) = chains
+            .split_at_mut_checked(fit.frame.shifts)
+            .ok_or(Refusal::MemoryTooShort)?;
         if self.done >= fit.cycles() {
             return Err(Refusal::NoCycleLeft);
         }
         machine.shift(word);
         self.done += 1;
         if self.done > fit.frame.warmup {
-            move_up(chains, fit.frame.shifts, fit.outlets, machine.read());
+            move_up(words, fit.outlets, machine.read());
         }
         Ok(())
     }

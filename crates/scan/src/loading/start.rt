@@ -3,7 +3,6 @@ ghost use Rattle.refusals.specs.Chains.{ok_map};
 ghost use Rattle.scan.specs.Runs.{bench, starting, answered, bench_after};
 ghost use Rattle.scan.specs.Views.{run_of};
 
-use crate::chains::clear;
 use crate::fit::Fit;
 use crate::frame::Frame;
 use crate::loading::Loading;
@@ -22,11 +21,11 @@ impl Loading {
         ensures after { bench (M.cells machine.new) chains.new ≡ bench_after (bench (M.cells machine.old) chains.old) (starting (M.meaning machine.old) frame (bench (M.cells machine.old) chains.old)) }
     {
         let fit = Fit::of(machine, frame)?;
-        if chains.len() < frame.shifts {
-            return Err(Refusal::MemoryTooShort);
-        }
+        let (words, _) = chains
+            .split_at_mut_checked(frame.shifts)
+            .ok_or(Refusal::MemoryTooShort)?;
         machine.reset();
-        clear(chains, frame.shifts);
+        words.fill(0);
         Ok(Loading { fit, done: 0 })
     }
 }

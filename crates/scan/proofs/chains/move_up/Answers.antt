@@ -1,5 +1,4 @@
-use Rattle.std.proofs.Common.{ℕ, List, get_or, set, ap, ◌∙◌, arith}
-use Rattle.std.proofs.lemmas.List.{length-take-le}
+use Rattle.std.proofs.Common.{ℕ, List, get_or, set, ap, ◌∙◌}
 use Rattle.bits.specs.Words.{bit_of, word_of}
 use Rattle.scan.proofs.Memory.{next_carried, holding_more}
 use Rattle.scan.proofs.chains.move_up.Goals as goal
@@ -7,9 +6,8 @@ use Rattle.scan.proofs.chains.move_up.Goals as goal
 pub loop-word-preserved : goal.loop-word-preserved
 loop-word-preserved c =
     let n = c.loop-word.word-index in
-    let long = length-take-le c.args.positions c.args.words.now c.requires.room in
     let so_far = c.loop-word.invariant.0 in (
       ap (λ (ws : List ℕ). set ws n c.replace.new.dest) so_far ∙ holding_more _ _ _ _ _ c.loop-word-test.true (c.replace.ensures.after ∙ c.loop-word.invariant.1),
       c.low-carried.ensures ∙ ap (λ (w : ℕ). word_of c.args.chains (bit_of w)) (c.replace.ensures.value ∙ ap (λ (ws : List ℕ). get_or ws n 0) so_far)
-          ∙ next_carried n c.args.positions _ _ _ c.args.words.now c.requires.room (omega arith),
+          ∙ next_carried n _ _ _ c.args.words.now c.loop-word-test.true,
     )
