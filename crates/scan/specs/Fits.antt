@@ -13,10 +13,6 @@ pub record Fitting : Type 0 where
 abbrev pub fitting : Linear → Frame → Fitting
 fitting m f = record { frame = f; channels = m.channels; outlets = m.outlets }
 
--- what stands where nothing was checked yet: no cycle, channel or outlet
-abbrev pub no_fitting : Fitting
-no_fitting = record { frame = record { warmup = 0; shifts = 0 }; channels = 0; outlets = 0 }
-
 -- a machine has the channels and outlets of a fitting
 abbrev pub suited : Linear → Fitting → Bool
 suited m f = m.channels == f.channels && m.outlets == f.outlets

@@ -5,9 +5,8 @@ use crate::frame::Frame;
 
 mod checks;
 mod counts;
-mod parts;
 
-// A frame that was checked against a machine, beside the machine's channels and outlets. All may be 0, of a machine and a frame that are not there.
+// A frame that was checked against a machine, beside the machine's channels and outlets.
 #[derive(Clone, Copy)]
 pub struct Fit {
     pub(crate) frame: Frame,

@@ -1,7 +1,7 @@
 ghost use Rattle.std.specs.Prelude.{◌≡◌, Ok};
 ghost use Rattle.refusals.specs.Chains.{ok_map};
 ghost use Rattle.scan.specs.Frames.{in_limits, in_span};
-ghost use Rattle.scan.specs.Fits.{fitting, no_fitting, suited};
+ghost use Rattle.scan.specs.Fits.{fitting, suited};
 ghost use Rattle.scan.specs.Views.{fitting_of};
 
 use crate::fit::Fit;
@@ -21,20 +21,6 @@ impl Fit {
             channels,
             outlets: machine.outlets(),
         })
-    }
-
-    // No cycles, channels and outlets, where nothing was checked yet.
-    pub fn none() -> Fit
-        ensures { fitting_of result ≡ no_fitting }
-    {
-        Fit {
-            frame: Frame {
-                warmup: 0,
-                shifts: 0,
-            },
-            channels: 0,
-            outlets: 0,
-        }
     }
 
     // Whether a machine has these channels and outlets.
