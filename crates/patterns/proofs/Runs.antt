@@ -20,12 +20,7 @@ use Rattle.scan.specs.Loads.{Chains, cells_after, chains_after, moved_up, load}
 use Rattle.scan.specs.Memory.{words_of, chains_in, holding}
 use Rattle.scan.specs.Runs.{Bench, bench, Run, run_at, underway, memory_after, cycled, shifting, closing}
 use Rattle.patterns.specs.Replays.{replaying, HoldsItsLoad, closed, run_by_hand, InjectionWords, seen, WholeRuns}
-use Rattle.scan.proofs.Memory.{length_words, length_holding, holding_at}
-
-words_same : (n c : ℕ) (h k : Chains) → ((p : ℕ) → p < n → word_of c (h p) ≡ word_of c (k p)) → words_of n c h ≡ words_of n c k
-words_same zero c h k e = refl
-words_same (suc n) c h k e =
-    ap₂ (λ (w : ℕ) (ws : List ℕ). w ∷ ws) (e zero (omega arith)) (words_same n c (λ p. h (suc p)) (λ p. k (suc p)) (λ p l. e (suc p) (omega arith)))
+use Rattle.scan.proofs.Memory.{length_words, length_holding, holding_at, words_same}
 
 -- chains that memory holds move up as the chains themselves do
 moves_on : (n c : ℕ) (entering : Row) (h : Chains) (memory : List ℕ) → n ≤ length memory

@@ -28,11 +28,11 @@ impl Trial<'_> {
         ensures truly { ToldTruly (M.meaning machine.old) (session_of table.old self.old.counter.now) bit result (session_of table.new self.new.counter.now) }
     {
         let in_force = table.in_force(self.counter)?;
-        // No machine is like that of a table that was never opened.
-        let fit = table.fit.ok_or(Refusal::OutOfRange)?;
-        if !fit.suits(machine) {
-            return Err(Refusal::OutOfRange);
-        }
+        // The machine must be like that of the opening; before any, no machine is.
+        let fit = table
+            .fit
+            .filter(|fit| fit.suits(machine))
+            .ok_or(Refusal::OutOfRange)?;
         let equation = equation_of(machine, fit.frame(), bit)?;
         let Some(row) = in_force.weigh(equation)? else {
             return Ok(0);
