@@ -5,6 +5,7 @@ use crate::frame::Frame;
 
 mod checks;
 mod counts;
+mod parts;
 
 // A frame that was checked against a machine, beside the machine's channels and outlets.
 #[derive(Clone, Copy)]

@@ -46,7 +46,7 @@ impl Loaded {
 
 impl Captured {
     // One unload cycle, which answers the values and the unknown marks of the position that leaves: the highest first. A refusal leaves the
-    // run as it was. The pair is a tuple, as it is handed on.
+    // run as it was. The pair is a tuple of two words: whoever unloads takes it apart at once.
     pub fn unload(&mut self, values: &[u64], unknowns: &[u64]) -> Result<(u64, u64), Refusal>
         ensures answer { result ≡ ok_map (λ o. o.0) (unloading self.old values.now unknowns.now) }
         ensures after { self.new ≡ left_by self.old (ok_map (λ o. o.1) (unloading self.old values.now unknowns.now)) }
