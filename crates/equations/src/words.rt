@@ -1,4 +1,5 @@
 // Rows of 256 bits as four words, place i in bit i % 64 of word i / 64. The words are taken, built and handed back by value.
+// A place is compared with 256, as in the definition, and not asked of the words by `get`, which would say it in words of 64.
 ghost use Rattle.std.specs.Prelude.{◌≡◌, ◌&&◌, ◌||◌, ◌==◌};
 ghost use Rattle.bits.specs.Rows.{plus, upto};
 ghost use Rattle.equations.specs.Equations.{words_row, dot, last_bit};

@@ -14,7 +14,8 @@ use machine::Machine;
 use refusals::Refusal;
 use scan::{Frame, Loaded, Loading, SPAN_LIMIT};
 
-// Whether a pattern can be replayed into so many words of chain memory. A `Fit` does not say it: a wrong count of digits goes before the span.
+// Whether a pattern can be replayed into so many words of chain memory. A `Fit` does not say it: a wrong count of digits goes before the span,
+// and memory is looked at with the rest, before the machine is driven.
 fn check_pattern(channels: usize, frame: Frame, digits: &[u8], room: usize) -> Result<(), Refusal>
     requires { channels ≤ 64 }
     ensures { result ≡ replayable channels frame digits.now room (Ok tt) }

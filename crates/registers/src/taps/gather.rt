@@ -9,7 +9,7 @@ use bits::has;
 use refusals::{Gathers, Refusal};
 
 impl Taps {
-    // No tap yet, for a register of that size.
+    // No tap yet, for a register of that size. Each part says itself how it is empty, as `Inlets` does.
     pub fn new(size: usize) -> Result<Taps, Refusal>
         ensures { ok_map taps_read result ≡ no_taps size }
     {

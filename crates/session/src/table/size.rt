@@ -5,7 +5,7 @@ use crate::table::EquationTable;
 use scan::Frame;
 
 impl EquationTable {
-    // The frame of the opening; before any, one of no cycles.
+    // The frame of the opening; before any, one of no cycles, which is what a table has always told then.
     pub fn frame(&self) -> Frame
         ensures { result ≡ (fitting_at self.now.fit).frame }
     {
@@ -16,7 +16,7 @@ impl EquationTable {
         self.fit.map_or(unopened, |fit| fit.frame())
     }
 
-    // The outlets of the machine at the opening, which are the chains; before any opening, 0.
+    // The outlets of the machine at the opening, which are the chains; before any opening, 0, for the same reason.
     pub fn chains(&self) -> usize
         ensures { result ≡ (fitting_at self.now.fit).outlets }
     {
