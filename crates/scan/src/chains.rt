@@ -5,7 +5,6 @@ ghost use Rattle.scan.specs.Loads.{moved_up};
 ghost use Rattle.scan.specs.Memory.{chains_in, words_of};
 
 use bits::low;
-use std::mem;
 
 // Every chain moves up one position and takes its bit of `entering` into position 0.
 pub(crate) fn move_up(words: &mut [u64], chains: usize, entering: u64)
@@ -14,6 +13,8 @@ pub(crate) fn move_up(words: &mut [u64], chains: usize, entering: u64)
 {
     let mut carried = entering;
     for word in words {
-        carried = low(mem::replace(word, carried), chains);
+        let leaving = low(*word, chains);
+        *word = carried;
+        carried = leaving;
     }
 }

@@ -7,7 +7,7 @@ pub loop-word-preserved : goal.loop-word-preserved
 loop-word-preserved c =
     let n = c.loop-word.word-index in
     let so_far = c.loop-word.invariant.0 in (
-      ap (λ (ws : List ℕ). set ws n c.replace.new.dest) so_far ∙ holding_more _ _ _ _ _ c.loop-word-test.true (c.replace.ensures.after ∙ c.loop-word.invariant.1),
-      c.low-carried.ensures ∙ ap (λ (w : ℕ). word_of c.args.chains (bit_of w)) (c.replace.ensures.value ∙ ap (λ (ws : List ℕ). get_or ws n 0) so_far)
+      ap (λ (ws : List ℕ). set ws n c.loop-word.carried) so_far ∙ holding_more _ _ _ _ _ c.loop-word-test.true c.loop-word.invariant.1,
+      c.low-leaving.ensures ∙ ap (λ (w : ℕ). word_of c.args.chains (bit_of w)) (ap (λ (ws : List ℕ). get_or ws n 0) so_far)
           ∙ next_carried n _ _ _ c.args.words.now c.loop-word-test.true,
     )
