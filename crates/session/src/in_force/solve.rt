@@ -25,7 +25,8 @@ impl<'a> InForce<'a> {
     pub(crate) fn first_solution(&self) -> [u64; 4]
         ensures { first self.now.variables (solutions self.now.rows.now) ≡ Some (list_of self.now.variables (words_row result)) }
     {
-        self.leaders().iter().enumerate().fold(
+        let leaders = self.leaders();
+        leaders[..self.variables].iter().enumerate().fold(
             [0; 4],
             // The clause is written, as what is inferred for a closure whose parameter holds a reference in an Option says nothing of its result.
             |solution, (v, leader)|
