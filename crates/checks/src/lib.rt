@@ -4,6 +4,8 @@
 #[cfg(test)]
 mod common;
 #[cfg(test)]
+mod handed_back;
+#[cfg(test)]
 mod makers;
 #[cfg(test)]
 mod runs;
