@@ -1,12 +1,12 @@
 -- Leads: what they say of an equation, and which equation of a list has a given one.
 use Rattle.std.proofs.Common.{◌≡◌, ℕ, zero, suc, ◌<◌, Bool, true, false, cond, ◌&&◌, eqb, List, [], ◌∷◌, length, Some, None, Option, sym, refl, ap, ◌∙◌, inl, inr, arith}
 use mathlib.Core.Bool.{beq}
-use Rattle.std.proofs.lemmas.Bool.{false≢true, both_ways, cases_eq, ltb-true, eq-eqb, ne_eqb, eqb-true, cond-false}
+use Rattle.std.proofs.lemmas.Bool.{false≢true, both_ways, cases_eq, ltb-true, eq-eqb, ne_eqb, eqb-true, cond-true, cond-false}
 use Rattle.bits.specs.Rows.{Row, xor, sum_of}
 use Rattle.bits.proofs.Sums.{sum_same, sum_cut, sum_none}
 use Rattle.equations.specs.declared.Equation.{Equation}
 use Rattle.equations.specs.Equations.{coefficients_of, dot, holds, highest, last_bit, lead_of}
-use Rattle.equations.specs.Systems.{row_at, is_below}
+use Rattle.equations.specs.Systems.{row_at, is_below, Apart}
 
 -- what the highest place says
 pub record Top (n : ℕ) (c : Row) (v : ℕ) : Type 0 where
@@ -106,6 +106,14 @@ pub leader_none : (es : List Equation) (v : ℕ) → ((k : ℕ) → k < length e
 leader_none [] v ne = refl
 leader_none (e ∷ es) v ne =
     cond-false _ (Some e) (leader_of es v) (not_at (lead_of e) v (ne zero (omega arith))) ∙ leader_none es v (λ k h. ne (suc k) (omega arith))
+
+-- where no two leads are the same, the equation that leads with a variable is the one that has it
+pub leader_at : (es : List Equation) (k v : ℕ) → Apart es (length es) → k < length es → lead_of (row_at es k) ≡ Some v → leader_of es v ≡ Some (row_at es k)
+leader_at [] k v apart h e = absurd (omega arith)
+leader_at (a ∷ es) zero v apart h e = cond-true _ (Some a) (leader_of es v) (at_is (lead_of a) v e)
+leader_at (a ∷ es) (suc k) v apart h e =
+    cond-false _ (Some a) (leader_of es v) (not_at (lead_of a) v (λ z. apart zero (suc k) (omega arith) h (z ∙ sym e)))
+    ∙ leader_at es k v (λ i j l m. apart (suc i) (suc j) (omega arith) (omega arith)) (omega arith) e
 
 -- an equation of the list that has the lead
 pub record Leader (es : List Equation) (v : ℕ) (e : Equation) : Type 0 where

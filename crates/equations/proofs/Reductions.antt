@@ -1,6 +1,6 @@
 -- An equation reduced row by row, and what it then says of the solutions.
 use Rattle.std.proofs.Common.{◌≡◌, ℕ, ◌+◌, ◌-◌, ◌^◌, ◌<◌, ◌≤◌, Bool, true, false, ◌&&◌, List, [], ◌∷◌, ◌++◌, length, take, set, Some, None, Option, sym, refl, ap, ◌∙◌, ap₂, inl, inr, arith}
-use mathlib.Core.Bool.{beq, and-true}
+use mathlib.Core.Bool.{beq, and-true, and-false}
 use Rattle.std.proofs.Math.Bool.{and_assoc}
 use Rattle.std.proofs.lemmas.List.{take_more, take_more_set, length-set}
 use Rattle.std.proofs.lemmas.Bool.{both_ways, cases_eq, cases_lt, and_parts, lt-ltb}
@@ -12,8 +12,8 @@ use Rattle.equations.specs.declared.Equation.{Equation}
 use Rattle.equations.specs.Counting.{Test, both, number}
 use Rattle.equations.specs.Equations.{coefficients_of, dot, holds, solves, solutions, lead_of}
 use Rattle.equations.specs.Systems.{row_at, is_below, Led, Apart, is_among, Clear, ClearOf, Within, Reduced}
-use Rattle.equations.proofs.Counts.{number_same}
-use Rattle.equations.proofs.Leads.{below_is, lead_top}
+use Rattle.equations.proofs.Counts.{number_same, number_none}
+use Rattle.equations.proofs.Leads.{below_is, lead_top, holds_none}
 use Rattle.equations.proofs.Solved.{system_number, system_room}
 
 dot_plus : (c d x : Row) → dot (plus c d) x ≡ xor (dot c x) (dot d x)
@@ -116,6 +116,17 @@ module _ (v : ℕ) (rows : List Equation) (n : ℕ) (e r : Equation) (reduced : 
       go true h = says x l h
       go false h = refl
 
+  -- nothing is left to say: the bit is implied
+  pub implied : lead_of r ≡ None → r.right ≡ false → (x : List Bool) → length x ≡ v → both (solutions (take n rows)) bit x ≡ solutions (take n rows) x
+  implied none right x l =
+      both_says x l ∙ ap (λ (b : Bool). solutions (take n rows) x && b) (holds_none r (row_of x) none ∙ ap (beq false) right) ∙ and-true (solutions (take n rows) x)
+
+  -- 0 = 1 is left: the bit contradicts
+  pub contradicts : lead_of r ≡ None → r.right ≡ true → number v (both (solutions (take n rows)) bit) ≡ 0
+  contradicts none right =
+      number_none v _ (λ x l. both_says x l ∙ ap (λ (b : Bool). solutions (take n rows) x && b) (holds_none r (row_of x) none ∙ ap (beq false) right)
+      ∙ and-false (solutions (take n rows) x))
+
   -- a lead is left: the equation is new
   module _ (w : ℕ) (lead : lead_of r ≡ Some w) (within : Within v e) where
     pub lead_low : w < v
@@ -192,6 +203,14 @@ module _ (v : ℕ) (rows : List Equation) (written : ℕ) (led : Led v rows writ
 
   pub row_passed : (w : ℕ) → lead_of (row_at rows n) ≡ Some w → coefficients_of r w ≡ false → Reduced v rows (n + 1) e r
   row_passed w lead none = reduced_skip v rows e n r long so_far w lead none
+
+  -- a row without a lead is none of the table's
+  pub row_leads : lead_of (row_at rows n) ≡ None → ⊥
+  row_leads none =
+      let below = below_is v (lead_of (row_at rows n)) (led n inside) in
+      let both : ◌≡◌ {A = Option ℕ} None (Some below.0) = sym none ∙ below.1 in
+      let z : ◌≡◌ {A = ℕ} 0 1 = cc in
+      omega arith
 
 -- what writing an equation into the row after the first n keeps
 pub record Keeps (v : ℕ) (rows : List Equation) (n : ℕ) (r : Equation) : Type 0 where

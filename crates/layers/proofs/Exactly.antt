@@ -5,10 +5,8 @@ use Rattle.std.proofs.lemmas.Bool.Decides.{nat_tests}
 use Rattle.refusals.specs.declared.Refusal.{Refusal}
 use Rattle.refusals.proofs.Steps.{then_ok}
 use Rattle.refusals.specs.Chains.{and_then, reading}
+use Rattle.layers.specs.Mixes.{set_new}
 use Rattle.layers.specs.Shifter.{set_line, set_lines, some_outlet, outlets_from, ShifterExactly}
-
-set_new : (sets : List ℕ) (set : ℕ) → length sets < 64 → 0 < set → set_line sets set ≡ Ok (sets ++ (set ∷ []))
-set_new sets set room some = grind (arith, nat_tests)
 
 set_accepts : (sets : List ℕ) (set : ℕ) → is_ok (set_line sets set) ≡ true → (length sets < 64) × (0 < set)
 set_accepts sets set ok = (grind (arith, nat_tests), grind (arith, nat_tests))

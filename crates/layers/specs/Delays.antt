@@ -1,5 +1,5 @@
 -- The delay: its laws, and what its methods leave.
-use Rattle.std.specs.Prelude.{◌≡◌, ℕ, ◌+◌, ◌-◌, ◌≤◌, nat_lt, refl}
+use Rattle.std.specs.Prelude.{◌≡◌, ℕ, ◌+◌, ◌-◌, ◌≤◌, Bool, true, false, cond, nat_lt, refl}
 use Rattle.std.proofs.Common.{sym, ap, ap₂, ◌∙◌, arith}
 use Rattle.std.proofs.lemmas.Bool.Decides.{nat_tests}
 use Rattle.bits.specs.Rows.{Row, plus, upto}
@@ -11,6 +11,10 @@ use Rattle.layers.specs.Delayed.{joined, delayed}
 
 joined_plus : (n : ℕ) (s t u v : Row) → joined n (plus s t) (plus u v) ≡ plus (joined n s u) (joined n t v)
 joined_plus n s t u v = ext (λ i. cond_xor (nat_lt i n) (s i) (t i) (u (i - n)) (v (i - n)))
+
+cond_cond : (c x y z : Bool) → cond c (cond c x y) z ≡ cond c x z
+cond_cond true x y z = refl
+cond_cond false x y z = refl
 
 upto_joined : (n : ℕ) (s t : Row) → upto n (joined n s t) ≡ upto n s
 upto_joined n s t = ext (λ i. grind (arith, nat_tests))

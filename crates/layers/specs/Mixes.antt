@@ -1,6 +1,7 @@
 -- The phase shifter: its law, and the words that it goes by.
-use Rattle.std.specs.Prelude.{◌≡◌, ℕ, ◌≤◌, Bool, ◌&&◌, List, length, slice_index}
-use Rattle.std.proofs.Common.{ap, ◌∙◌}
+use Rattle.std.specs.Prelude.{◌≡◌, ℕ, ◌<◌, ◌≤◌, Bool, ◌&&◌, List, [], ◌∷◌, ◌++◌, length, Ok, slice_index}
+use Rattle.std.proofs.Common.{ap, ◌∙◌, arith}
+use Rattle.std.proofs.lemmas.Bool.Decides.{nat_tests}
 use Rattle.std.proofs.Math.Bool.{and-false}
 use Rattle.std.specs.Int.Bits.{bit_and}
 use Rattle.bits.specs.Rows.{Row, plus, upto, sum_of}
@@ -11,7 +12,7 @@ use Rattle.machine.specs.Linear.{Linear, Superposes, Counted}
 use Rattle.lists.specs.declared.short_list.ShortList.{ShortList}
 use Rattle.lists.specs.Listed.{listed}
 use Rattle.lists.proofs.Lengths.{listed_few}
-use Rattle.layers.specs.Shifter.{mixed, shifter}
+use Rattle.layers.specs.Shifter.{mixed, set_line, shifter}
 
 mixed_plus : (n : ℕ) (sets : List ℕ) (s t : Row) → mixed n sets (plus s t) ≡ plus (mixed n sets s) (mixed n sets t)
 mixed_plus n sets s t =
@@ -27,6 +28,10 @@ superposes m sets law = record {
 pub counted : (m : Linear) (sets : ShortList ℕ 64) → 1 ≤ length (listed sets) → Counted m → Counted (shifter m (listed sets))
 counted m sets some below =
     record { channels_some = below.channels_some; channels_few = below.channels_few; outlets_some = some; outlets_few = listed_few sets }
+
+-- a set of outlets is taken where there is room
+pub set_new : (sets : List ℕ) (set : ℕ) → length sets < 64 → 0 < set → set_line sets set ≡ Ok (sets ++ (set ∷ []))
+set_new sets set room some = grind (arith, nat_tests)
 
 -- the sum that one set takes of a word
 pub sum_and : (set word : ℕ) → sum_of 64 (bit_of (bit_and set word)) ≡ sum_of 64 (λ j. bit_of set j && bit_of word j)

@@ -1,6 +1,7 @@
 -- Chain memory: its words one by one, and when it holds given chains.
-use Rattle.std.proofs.Common.{◌≡◌, ℕ, zero, suc, ◌+◌, ◌-◌, ◌^◌, ◌<◌, ◌≤◌, List, ◌∷◌, [], ◌++◌, length, get_or, drop, set, replicate, sym, refl, ap, ◌∙◌, subst, ap₂, add-one, arith}
-use Rattle.std.proofs.lemmas.List.{length-append, length-drop, get_or_append_left, get_or-append_right, get_or-drop, drop_at}
+use Rattle.std.proofs.Common.{◌≡◌, ℕ, zero, suc, ◌+◌, ◌-◌, ◌^◌, ◌<◌, ◌≤◌, List, ◌∷◌, [], ◌++◌, length, get_or, drop, set, replicate, sym, refl, ap, ◌∙◌, subst, ap₂, inl, inr, add-one, arith}
+use Rattle.std.proofs.lemmas.List.{length-append, length-drop, get_or_append_left, get_or-append_right, get_or-drop, ext_get_or, drop_at}
+use Rattle.std.proofs.lemmas.Bool.{cases_lt}
 use Rattle.bits.specs.Rows.{Row}
 use Rattle.bits.specs.Words.{bit_of, word_of}
 use Rattle.bits.proofs.Bitwise.{word_zeros, word_self, word_fits}
@@ -40,6 +41,13 @@ module _ (n c : ℕ) (h : Chains) (memory : List ℕ) (room : n ≤ length memor
       let e : n + (p - n) ≡ p = omega arith in
       get_or-append_right (words_of n c h) (drop n memory) n p 0 (length_words n c h) l ∙ get_or-drop n memory (p - n) 0
       ∙ ap (λ (q : ℕ). get_or memory q 0) e
+
+  -- memory holds the chains if its words say so
+  pub holding_is : (words : List ℕ) → length words ≡ length memory → ((p : ℕ) → p < n → get_or words p 0 ≡ word_of c (h p))
+      → ((p : ℕ) → n ≤ p → get_or words p 0 ≡ get_or memory p 0) → words ≡ holding n c h memory
+  holding_is words long here past =
+      ext_get_or 0 words (holding n c h memory) (long ∙ sym length_holding) (λ p _.
+      elim (cases_lt p n) [ inl l ↦ here p l ∙ sym (holding_at p l) | inr l ↦ past p l ∙ sym (holding_past p l) ])
 
 -- what the next position takes is what stood where the chains are written next
 pub next_carried : (n c : ℕ) (first : Row) (h : Chains) (memory : List ℕ) → n < length memory

@@ -1,5 +1,5 @@
 -- Calls one after another: every answer is true of the bits then standing.
-use Rattle.std.proofs.Common.{◌≡◌, ℕ, ◌≤◌, ◌⊎◌, List, [], ◌∷◌, Result, sym, ap, ◌∙◌, subst, inl, inr, arith}
+use Rattle.std.proofs.Common.{◌≡◌, ℕ, ◌≤◌, ◌⊎◌, List, [], ◌∷◌, ◌++◌, Result, sym, refl, ap, ◌∙◌, subst, inl, inr, arith}
 use Rattle.std.proofs.lemmas.List.{take-set-le}
 use Rattle.equations.specs.declared.Equation.{Equation}
 use Rattle.equations.specs.Equations.{solutions}
@@ -85,3 +85,8 @@ module _ (m : Linear) (f : Frame) where
   every_list s st es z chain =
       let all = chain_true (begun s) es z none chain (record { now_standing = st; less = omega arith; noted_standing = st }) in
       (all.0, all.1.now_standing)
+
+-- one call more at the end
+pub chain_push : (m : Linear) (a : Held) (es : List Event) (y : Held) (e : Event) (z : Held) → Chain m a es y → Call m y e z → Chain m a (es ++ (e ∷ [])) z
+chain_push m a [] y e z chain call = (z, subst (λ (h : Held). Call m h e z) chain call, refl)
+chain_push m a (d ∷ es) y e z chain call = (chain.0, chain.1, chain_push m chain.0 es y e z chain.2 call)
