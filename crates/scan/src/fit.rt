@@ -14,6 +14,7 @@ pub struct Fit {
     pub(crate) channels: usize,
     pub(crate) outlets: usize,
     ghost short_warmup: { frame.warmup ≤ 64 },
+    ghost some_shifts: { 1 ≤ frame.shifts },
     ghost short_shifts: { frame.shifts ≤ 256 },
     ghost few: { variables channels frame ≤ 256 },
 }
