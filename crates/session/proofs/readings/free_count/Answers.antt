@@ -1,6 +1,5 @@
-use Rattle.std.proofs.Common.{rules, ◌≡◌, Ok}
+use Rattle.std.proofs.Common.{rules, arith}
 use Rattle.session.specs.Fits.{fitting_at}
-use Rattle.session.specs.Sessions.{freeing}
 use Rattle.session.specs.Views.{session_of}
 use Rattle.session.proofs.Openings.{halved}
 use Rattle.session.proofs.Truths.{free_true}
@@ -13,5 +12,4 @@ pub returns-clause-truly : goal.returns-clause-truly
 returns-clause-truly c m bits st =
     let t = c.args.table.now in
     let n = c.args.counter.now.count in
-    let answer : Ok c.free.result ≡ freeing (session_of t c.args.counter.now) = search rules in
-    free_true m (fitting_at t.fit).frame (session_of t c.args.counter.now) bits st (Ok c.free.result) answer (halved t n)
+    free_true m (fitting_at t.fit).frame (session_of t c.args.counter.now) bits st _ (search (rules, arith)) (halved t n)

@@ -18,9 +18,9 @@ in_range tap n e = record { low = le_from_is_le 1 tap e.0; high = grind arith }
 pub invariant_of-self : goal.invariant_of-self
 invariant_of-self c =
     let t = c.args.self.now in
-    let tap = in_range c.args.tap t.size.cells c.if-not-contains.ensures.cases in
+    let tap = in_range c.args.tap _ c.if-not-contains.ensures.cases in
     let low = tap.low in
-    let high = tap.high in
+    let high : c.args.tap < t.size.cells = omega (arith, tap.high) in
     let few : c.args.tap < 64 = omega (arith, t.size.few) in
     record {
       within = or_lt t.size.cells t.set _ t.within (rw one_shl (pow-lt high));
@@ -30,8 +30,8 @@ invariant_of-self c =
 pub returns : goal.returns
 returns c =
     let t = c.args.self.now in
-    let tap = in_range c.args.tap t.size.cells c.if-not-contains.ensures.cases in
+    let tap = in_range c.args.tap _ c.if-not-contains.ensures.cases in
     let low = tap.low in
-    let high = tap.high in
+    let high : c.args.tap < t.size.cells = omega (arith, tap.high) in
     let few : c.args.tap < 64 = omega (arith, t.size.few) in
     record { answer = grind (arith, nat_tests); after = rw (bits_with t.set c.args.tap few) (grind (arith, nat_tests)) }
