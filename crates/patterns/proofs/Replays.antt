@@ -1,13 +1,28 @@
 -- A replay: the word of each cycle, and when all are done.
-use Rattle.std.proofs.Common.{◌≡◌, ℕ, suc, ◌+◌, ◌-◌, ◌*◌, ◌<◌, ◌≤◌, eqb, List, ◌++◌, length, get_or, drop, sym, ap, ◌∙◌, inl, inr, mul-le-mul_right, mul_comm, add-mul, one-mul, arith}
+use Rattle.std.proofs.Common.{◌≡◌, ℕ, suc, ◌+◌, ◌-◌, ◌*◌, ◌<◌, ◌≤◌, Bool, true, false, not, eqb, List, ◌++◌, length, get_or, drop, Ok, Err, Result, sym, refl, ap, ◌∙◌, inl, inr, mul-le-mul_right, mul_comm, add-mul, one-mul, arith}
 use Rattle.std.proofs.lemmas.List.{length-drop, get_or_append_left, get_or-drop, drop_at, drop-drop}
-use Rattle.std.proofs.lemmas.Bool.{cases_lt}
+use Rattle.std.proofs.lemmas.Bool.{false≢true, cases_lt}
 use Rattle.bits.specs.Digits.{digit_row}
 use Rattle.bits.specs.Rows.{upto}
 use Rattle.bits.specs.Words.{bit_of, word_of}
 use Rattle.bits.proofs.Bitwise.{word_bits}
 use Rattle.bits.proofs.Sums.{upto_upto, upto_same}
+use Rattle.refusals.specs.Chains.{answer_of}
 use Rattle.scan.specs.Frames.{taken}
+
+-- a result is accepted or refused, not both
+pub never_both : {X E : Type 0} (x : X) (e : E) → ◌≡◌ {A = Result X E} (Err e) (Ok x) → ⊥
+never_both x e h = let z : ◌≡◌ {A = ℕ} 0 1 = cc in omega arith
+
+pub never_refused : {S E : Type 0} (r : Result S E) (s : S) (e : E) → r ≡ Ok s → Err e ≡ answer_of r → ⊥
+never_refused r s e h refused = never_both (tt {0}) e (refused ∙ ap answer_of h)
+
+pub same_loaded : {X E F : Type 0} (x y : X) → ◌≡◌ {A = Result X E} (Ok x) (Ok y) → ◌≡◌ {A = Result X F} (Ok x) (Ok y)
+same_loaded x y h = let e : x ≡ y = cc in ap Ok e
+
+not_false : (b : Bool) → not b ≡ false → b ≡ true
+not_false true e = refl
+not_false false e = absurd (false≢true (sym e))
 
 -- the digits of a cycle stand first in what is left: its word has what the channels take, and what is left after it begins a cycle further on
 module _ (k t : ℕ) (digits cycle rest : List ℕ) (here : drop (t * k) digits ≡ cycle ++ rest) (long : length cycle ≡ k) where

@@ -1,6 +1,7 @@
 -- The responses of one channel, set one by one as its impulse goes through the machine.
 use Rattle.std.proofs.Common.{◌≡◌, ℕ, suc, ◌-◌, ◌*◌, ◌/◌, ◌%◌, ◌^◌, ◌<◌, ◌≤◌, Bool, false, ◌&&◌, ◌||◌, eqb, leb, List, sym, ap, ◌∙◌, ap₂, arith}
 use mathlib.Core.Bool.{or_assoc, or-false}
+use Rattle.std.proofs.lemmas.Nat.{mul-add-lt}
 use Rattle.std.proofs.lemmas.Bool.Decides.{nat_tests}
 use Rattle.bits.specs.Rows.{Row, zeros, upto}
 use Rattle.bits.specs.Words.{bit_of}
@@ -37,6 +38,10 @@ since m k t c from i = (eqb (i % m.channels) k && leb from (i / m.channels)) && 
 -- words that hold, beside what was there, the responses from a cycle on
 abbrev pub Holds : Linear → ℕ → ℕ → ℕ → Row → List ℕ → ℕ → Type 0
 Holds m k t c old words from = (i : ℕ) → i < 256 → words_row words i ≡ (old i || since m k t c from i)
+
+-- the places of all cycles are below 256
+pub place_within : (k t d c : ℕ) → c < k → d < t → k * t ≤ 256 → place_of k (t - d) c < 256
+place_within k t d c h l short = let p = mul-add-lt (t - d - 1) k c t (omega arith) h in omega arith
 
 module _ (m : Linear) (law : Superposes m) (k t c : ℕ) where
   -- nothing is taken after the last cycle

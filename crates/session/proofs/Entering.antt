@@ -1,10 +1,10 @@
 -- An equation put beside those in force: what it is answered, and what then holds.
-use Rattle.std.proofs.Common.{◌≡◌, ℕ, ◌+◌, ◌-◌, ◌^◌, ◌<◌, ◌≤◌, Bool, true, false, cond, ◌&&◌, List, length, take, set, Some, None, Ok, Err, Option, Result, sym, refl, ap, ◌∙◌, subst, arith, pow_pos}
+use Rattle.std.proofs.Common.{◌≡◌, ℕ, ◌+◌, ◌-◌, ◌^◌, ◌<◌, ◌≤◌, Bool, true, false, cond, ◌&&◌, List, length, take, set, is_some, Some, None, Ok, Err, Option, Result, sym, refl, ap, ◌∙◌, subst, arith, pow_pos}
 use mathlib.Core.Bool.{beq}
 use Rattle.std.proofs.Math.Seq.{take-length}
 use Rattle.std.proofs.lemmas.Nat.{pow_below}
 use Rattle.std.proofs.lemmas.List.{length-take-le, get_or-take}
-use Rattle.std.proofs.lemmas.Bool.{false≢true, eq-eqb, ne_eqb, lt-ltb, le-ltb, cond-true, cond-false}
+use Rattle.std.proofs.lemmas.Bool.{false≢true, true≢false, eq-eqb, ne_eqb, lt-ltb, le-ltb, cond-true, cond-false}
 use Rattle.bits.specs.Lists.{row_of}
 use Rattle.equations.specs.declared.Equation.{Equation}
 use Rattle.equations.specs.Counting.{Test, both, number}
@@ -26,6 +26,15 @@ use Rattle.session.specs.Lent.{Lent}
 use Rattle.session.specs.Sessions.{judging, with_row, After}
 use Rattle.session.specs.Standing.{weighed}
 use Rattle.session.specs.Views.{session_at}
+
+-- a lead that is there
+pub some_is : (o : Option ℕ) → true ≡ is_some o → (v : ℕ) × (o ≡ Some v)
+some_is None h = absurd (true≢false h)
+some_is (Some v) h = (v, refl)
+
+pub none_is : (o : Option ℕ) → false ≡ is_some o → o ≡ None
+none_is None h = refl
+none_is (Some v) h = absurd (false≢true h)
 
 -- what is left of an equation: nothing but its right side, which every solution of the others then gives it
 pub left_says : (v : ℕ) (rows : List Equation) (e r : Equation) → Reduced v rows (length rows) e r → lead_of r ≡ None

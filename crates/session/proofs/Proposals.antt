@@ -1,6 +1,6 @@
 -- A proposal: which of its checks decides, and what its equation says.
 use Rattle.std.proofs.Common.{◌≡◌, ℕ, ◌+◌, ◌≤◌, Bool, true, false, not, ◌&&◌, eqb, ltb, List, length, take, set, Some, None, Option, Ok, Err, Result, sym, refl, ap, ◌∙◌, subst, arith}
-use Rattle.std.proofs.lemmas.Bool.{and_parts, eqb-true, le-ltb, cond-false}
+use Rattle.std.proofs.lemmas.Bool.{and_parts, or_from, ltb-true, eqb-true, le-ltb, cond-true, cond-false}
 use Rattle.bits.specs.Lists.{row_of}
 use Rattle.equations.specs.declared.Equation.{Equation}
 use Rattle.equations.specs.Counting.{both, number}
@@ -31,6 +31,25 @@ use Rattle.session.proofs.Truths.{propose_true}
 -- a proposal that does what it should answers truly
 pub truly : (m : Linear) (s : Session) (b : CareBit) (r : Result ℕ Refusal) (t : Session) → Proposed m s b r t → ToldTruly m s b r t
 truly m s b r t p bits st = propose_true m s.frame s bits st b r t p
+
+-- what the look at a bit comes to, in a frame whose numbers are not too large
+module _ (m : Linear) (f : Frame) (b : CareBit) (warm : f.warmup ≤ 64) (short : f.shifts ≤ 256) (few : span m.channels f ≤ 256) where
+  in_span_lem : {X : Type 0} (r : Result X Refusal) → in_span m.channels f r ≡ r
+  in_span_lem r = cond-false _ _ _ (le-ltb 256 (span m.channels f) few)
+
+  pub looked_in : is_in_range m f b ≡ true → in_limits f (in_span m.channels f (in_chains m f b (Ok (tt {0})))) ≡ Ok (tt {0})
+  looked_in e =
+      let below = ltb-true b.position f.shifts (and_parts (ltb b.chain m.outlets) (ltb b.position f.shifts) e).1 in
+      cond-false _ _ _ (or_from _ _ (le-ltb 64 f.warmup warm) (or_from _ _ (le-ltb f.shifts 1 (omega arith)) (le-ltb 256 f.shifts short)))
+      ∙ in_span_lem (in_chains m f b (Ok (tt {0}))) ∙ cond-false _ _ _ (ap not e)
+
+  pub looked_out : is_in_range m f b ≡ false → in_limits f (in_span m.channels f (in_chains m f b (Ok (tt {0})))) ≡ Err OutOfRange
+  looked_out e =
+      ap (λ (r : Result Unit Refusal). in_limits f r) (in_span_lem (in_chains m f b (Ok (tt {0}))) ∙ cond-true _ _ _ (ap not e)) ∙ same (out_of_limits f)
+    where
+      same : (a : Bool) → refused_if {X = Unit {0}} a OutOfRange (Err OutOfRange) ≡ Err OutOfRange
+      same true = refl
+      same false = refl
 
 -- a proposal on a machine like the one at the opening, whose bit is in range: the equations in force are lent, and the bit has its equation
 module _ (m : Linear) (t : EquationTable) (n : ℕ) (b : CareBit) (s : InForce) (lent : Lent t n (Ok s)) (like : is_like m (session_at t n) ≡ true)
